@@ -1,0 +1,4 @@
+pub mod Hosts
+pub mod HostLaws
+pub mod Turnless
+pub mod Children

@@ -1,0 +1,5 @@
+pub mod Constants
+pub mod Reals
+pub mod Least
+pub mod Along
+pub mod Laws
