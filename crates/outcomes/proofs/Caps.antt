@@ -16,7 +16,7 @@ use Rattle.numbers.proofs.Literals.{zero-is}
 use Rattle.numbers.proofs.Order.{not-lt}
 use Rattle.numbers.proofs.Ranges.{both, first-of, second-of}
 use Rattle.numbers.proofs.Units.{antisym}
-use Rattle.outcomes.specs.Impacts.{clean, strictly, upto, below, atMost}
+use Rattle.outcomes.specs.Impacts.{Cap, clean, strictly, upto, below, atMost}
 
 -- ---- tests
 
@@ -127,3 +127,8 @@ plain-by t k l false e =
 -- a clean value from 0 up has no minus sign
 pub clean-plain : (t : Float) → T (clean t) → T (le zeroF t) → negative t ≡ false
 clean-plain t k l = plain-by t k l (lt zeroF t) refl
+
+-- 1 is a cap
+pub cap-one : Cap oneF
+unfolding ofBits le fits isNan negative
+cap-one = (tt, tt, tt)
