@@ -1,0 +1,31 @@
+use mathlib.Core.Path.{refl}
+use lib.Bits.{bitAnd}
+use lib.Ieee.{ofBits, fits, neg, add, sub, mul, div, lt, le, eq}
+use Rattle.std.specs.Floats.{negative}
+use Rattle.measured.specs.Halls.{Case, Holds}
+use Rattle.measured.proofs.measured_casts_stand.Needs as need
+
+pub returns : need.returns
+unfolding ofBits fits neg add sub mul div lt le eq negative
+returns c = record {
+  casts = (
+    record { answers = refl; stops = refl; crosses = refl },
+    (
+      record { answers = refl; stops = refl; crosses = refl },
+      (
+        record { answers = refl; stops = refl; crosses = refl },
+        (
+          record { answers = refl; stops = refl; crosses = refl },
+          (
+            record { answers = refl; stops = refl; crosses = refl },
+            (record { answers = refl; stops = refl; crosses = refl }, tt),
+          ),
+        ),
+      ),
+    ),
+  );
+  clamped = refl;
+  nearer = refl;
+  nearer-first = refl;
+  groups-agree = (refl, (refl, (refl, (refl, tt))));
+}
