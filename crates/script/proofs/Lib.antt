@@ -1,0 +1,4 @@
+pub mod ChildWords
+pub mod Kept
+pub mod Ignored
+pub mod Sayings

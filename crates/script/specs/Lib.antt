@@ -1,0 +1,4 @@
+pub mod Choices
+pub mod Parts
+pub mod Lines
+pub mod Laws

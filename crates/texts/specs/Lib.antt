@@ -1,0 +1,6 @@
+pub mod Cuts
+pub mod Words
+pub mod Digits
+pub mod Reals
+pub mod Places
+pub mod Laws
