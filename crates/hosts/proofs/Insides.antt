@@ -15,7 +15,7 @@ use Rattle.geometry.specs.Poses.{identity, isIdentity, rangedRotation, rangedPo
 use Rattle.geometry.specs.Boxes.{aroundOf, finiteVector, FiniteBox}
 use Rattle.hosts.specs.declared.questions.Sweep.{Sweep}
 use Rattle.hosts.specs.Turnless.{admitted, productOf, poseAlong, Inside, InsideASweep}
-use Rattle.hosts.proofs.Places.{Bounded, one-m, five-m, in-million, in-reach, reach-in-five, upper-end, lower-end, inside-ranged, inside-reach, inside-product, proper}
+use Rattle.hosts.proofs.Places.{Bounded, one-m, five-m, in-million, in-reach, reach-in-five, child-place, upper-end, lower-end, inside-ranged, inside-reach, inside-product, proper}
 
 -- ---- no turn
 
@@ -65,6 +65,10 @@ in-reach-all p h =
 
 pub in-five-all : (v : Vector) → Each (Bounded reach) v → Each (Bounded five-m) v
 in-five-all v k = ((k .0 .0, reach-in-five (v .x) (k .0 .1)), (k .1 .0, reach-in-five (v .y) (k .1 .1)), (k .2 .0, reach-in-five (v .z) (k .2 .1)))
+
+-- a place within reach, and a child's place in range
+pub sum-in-five : (p c : Vector) → Each (Bounded reach) p → Each (Bounded one-m) c → Each (Bounded five-m) (sumOf p c)
+sum-in-five p c a b = (child-place (p .x) (c .x) (a .0) (b .0), child-place (p .y) (c .y) (a .1) (b .1), child-place (p .z) (c .z) (a .2) (b .2))
 
 -- the numbers of a pose in range
 pub place-ranged : (p : Pose) → InRange p → T (rangedVector million (p .translation))

@@ -38,9 +38,9 @@ use Rattle.hosts.specs.declared.questions.Child.{Child}
 use Rattle.hosts.specs.Children.{partOf}
 use Rattle.hosts.specs.HostLaws.{Lawful, SoundChild}
 use Rattle.hosts.specs.Turnless.{admitted, productOf}
-use Rattle.hosts.proofs.Parts.{part-short}
-use Rattle.hosts.proofs.Places.{Bounded, one-m, five-m, child-place}
-use Rattle.hosts.proofs.Insides.{Each, in-million-all, in-reach-all, in-five-all, place-ranged, origin-in, sum-finite, around-finite, inside-a-sweep}
+use Rattle.hosts.proofs.Parts.{part-short, short-or-none, passing-short, passing-pass, each-passes}
+use Rattle.hosts.proofs.Places.{Bounded, one-m, five-m}
+use Rattle.hosts.proofs.Insides.{Each, in-million-all, in-reach-all, in-five-all, sum-in-five, place-ranged, origin-in, sum-finite, around-finite, inside-a-sweep}
 use Rattle.recorded.specs.declared.rows.Listed.{Listed}
 use Rattle.recorded.specs.declared.rows.Row.{Row}
 use Rattle.recorded.specs.Records.{recordedAnswers, rangedBox, onlyRanged, entryOf, isCompound, isPiece, childFits, allFit, fittingOf, partsOf, childrenOf, knownOf, shapeOf, kindOf, boxAt, fromZero, timeFits, rowFits, counts, rowOf, atCap, castOf, timeFrom, timeOf}
@@ -202,19 +202,11 @@ compound-kind HeightField e = absurd (passes false e)
 compound-kind Voxels e = absurd (passes false e)
 compound-kind Other e = absurd (passes false e)
 
-short-by : (l : List Child) (b : Bool) → length l ≤ 16 → length (cond b l []) ≤ 16
-short-by l true h = h
-short-by l false h = omega arith
-
 short : (ss : List Listed) (cs : List Child) (o : Option Listed) → length (partsOf ss cs o) ≤ 16
 short ss cs None = omega arith
 short ss cs (Some l) =
     let p = partOf cs (l .first) (l .count) in
-    short-by (fittingOf ss p) (isCompound (l .kind)) (short-by p (allFit ss p) (part-short cs (l .first) (l .count)))
-
-fit-by : (ss : List Listed) (l : List Child) (b : Bool) → allFit ss l ≡ b → T (allFit ss (cond b l []))
-fit-by ss l true e = passes (allFit ss l) e
-fit-by ss l false e = tt
+    short-or-none (fittingOf ss p) (isCompound (l .kind)) (passing-short (childFits ss) p (part-short cs (l .first) (l .count)))
 
 if-fit : (ss : List Listed) (l : List Child) (b : Bool) → T (allFit ss l) → T (allFit ss (cond b l []))
 if-fit ss l true h = h
@@ -224,12 +216,7 @@ parts-fit : (ss : List Listed) (cs : List Child) (o : Option Listed) → T (allF
 parts-fit ss cs None = tt
 parts-fit ss cs (Some l) =
     let p = partOf cs (l .first) (l .count) in
-    if-fit ss (fittingOf ss p) (isCompound (l .kind)) (fit-by ss p (allFit ss p) refl)
-
--- what holds of each child that fits holds of all children
-each-fits : (ss : List Listed) (P : Child → Type 0) → ((c : Child) → T (childFits ss c) → P c) → (l : List Child) → T (allFit ss l) → All P l
-each-fits ss P k [] h = tt
-each-fits ss P k (c ∷ l) h = (k c (first-of (childFits ss c) (allFit ss l) h), each-fits ss P k l (second-of (childFits ss c) (allFit ss l) h))
+    if-fit ss (fittingOf ss p) (isCompound (l .kind)) (passing-pass (childFits ss) p)
 
 -- a Compound that is known has children
 some-by : (s : Listed) (n : ℕ) (b e : Bool) → eqb n 0 ≡ e → isCompound (s .kind) ≡ b → kindOf (cond (b && e) None (Some s)) ≡ Some Compound → 1 ≤ n
@@ -324,10 +311,6 @@ box-finite (Some l) p h a =
       sum-finite (p .translation) (b .maxs) a (in-million-all (b .maxs) (first-of (rangedVector million (b .maxs)) ordered (second-of (rangedVector million (b .mins)) rest h))),
     )
 
--- a place, and a child's place in range
-sum-in-five : (p c : Vector) → Each (Bounded reach) p → Each (Bounded one-m) c → Each (Bounded five-m) (sumOf p c)
-sum-in-five p c a b = (child-place (p .x) (c .x) (a .0) (b .0), child-place (p .y) (c .y) (a .1) (b .1), child-place (p .z) (c .z) (a .2) (b .2))
-
 fit-place : (ss : List Listed) (c : Child) → T (childFits ss c) → Each (Bounded one-m) (c .pose .translation)
 fit-place ss c h = in-million-all (c .pose .translation) (place-ranged (c .pose) (fit-range ss c h))
 
@@ -349,10 +332,10 @@ recordedLawful ss cs rs = record {
   times = λ q p. time-law rs (q .fast) (q .target);
   turning = λ q p. turns-under-caps (timeOf (rowOf rs (q .fast) (q .target))) (q .dt) (time-law rs (q .fast) (q .target));
   few = λ s e. (some-children (entryOf ss s) (childrenOf ss cs s) e, short ss cs (entryOf ss s));
-  children = λ s. each-fits ss (SoundChild (recordedAnswers ss cs rs)) (sound ss cs rs) (childrenOf ss cs s) (parts-fit ss cs (entryOf ss s));
+  children = λ s. each-passes (childFits ss) (SoundChild (recordedAnswers ss cs rs)) (sound ss cs rs) (childrenOf ss cs s) (parts-fit ss cs (entryOf ss s));
   childless = λ s h. compound ss cs (entryOf ss s) h;
   boxes = λ s k p e a. box-finite (shapeOf ss cs s) p (shape-sized ss cs s) (in-five-all (p .translation) (in-reach-all p a));
-  child-boxes = λ s p a. each-fits ss (λ c. FiniteBox (boxAt (shapeOf ss cs (c .shape)) (productOf p (c .pose)))) (λ c. child-finite ss cs p c a) (childrenOf ss cs s) (parts-fit ss cs (entryOf ss s));
+  child-boxes = λ s p a. each-passes (childFits ss) (λ c. FiniteBox (boxAt (shapeOf ss cs (c .shape)) (productOf p (c .pose)))) (λ c. child-finite ss cs p c a) (childrenOf ss cs s) (parts-fit ss cs (entryOf ss s));
   inside = λ w t I A. let k = inside-a-sweep w t I (A .start-range) (A .end-range) in (k .range, k .admitted-there);
   inside-products = λ w t r I A R a b. inside-a-sweep w t I (A .start-range) (A .end-range) .product r R;
 }

@@ -26,7 +26,7 @@ use Rattle.outcomes.specs.declared.overlap.Overlap.the-variants.{No}
 use Rattle.outcomes.specs.Outcomes.{fractionOf, yesOrNo}
 use Rattle.hosts.specs.declared.questions.Child.{Child}
 use Rattle.hosts.specs.Hosts.{Answers}
-use Rattle.hosts.specs.Children.{partOf}
+use Rattle.hosts.specs.Children.{partOf, allPass, passing}
 use Rattle.hosts.specs.Turnless.{admitted, productOf, inverseOf, relativeOf, poseAlong}
 use Rattle.recorded.specs.declared.rows.Listed.{Listed}
 use Rattle.recorded.specs.declared.rows.Row.{Row}
@@ -63,12 +63,11 @@ abbrev pub childFits : List Listed → Child → Bool
 childFits ss c = isPiece (entryOf ss (c .shape)) && (rangedPose million (c .pose) && isIdentity (c .pose .rotation))
 
 abbrev pub allFit : List Listed → List Child → Bool
-allFit ss [] = true
-allFit ss (c ∷ l) = childFits ss c && allFit ss l
+allFit ss l = allPass (childFits ss) l
 
 -- the children, if they all fit
 abbrev pub fittingOf : List Listed → List Child → List Child
-fittingOf ss l = cond (allFit ss l) l []
+fittingOf ss l = passing (childFits ss) l
 
 abbrev pub partsOf : List Listed → List Child → Option Listed → List Child
 partsOf ss cs None = []

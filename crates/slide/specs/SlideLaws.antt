@@ -33,10 +33,10 @@ use Rattle.hosts.specs.declared.questions.Child.{Child}
 use Rattle.hosts.specs.declared.questions.CastQuery.{CastQuery}
 use Rattle.hosts.specs.HostLaws.{Lawful, SoundChild}
 use Rattle.hosts.specs.Children.{partOf}
-use Rattle.hosts.proofs.Parts.{part-short}
+use Rattle.hosts.proofs.Parts.{part-short, passing-short, passing-pass, each-passes}
 use Rattle.hosts.specs.Turnless.{admitted, productOf, strokeOf}
-use Rattle.hosts.proofs.Places.{Bounded, one-m, five-m, child-place}
-use Rattle.hosts.proofs.Insides.{Each, each-finite, all-finite, in-million-all, in-reach-all, in-five-all, place-ranged, origin-in, around-finite, inside-a-sweep}
+use Rattle.hosts.proofs.Places.{Bounded, one-m}
+use Rattle.hosts.proofs.Insides.{Each, each-finite, all-finite, in-million-all, in-reach-all, in-five-all, sum-in-five, place-ranged, origin-in, around-finite, inside-a-sweep}
 use Rattle.strokes.specs.Strokes.{meetingOf, countedFor, soonerOf}
 use Rattle.strokes.specs.Laws.{Met}
 use Rattle.strokes.proofs.CapLaws.{proxy-solid-law, proxy-pseudo-law, proxy-clean-law, composite-solid-law, composite-pseudo-law, composite-clean-law}
@@ -72,26 +72,13 @@ some-children : (a : Option Vector) (l : List Child) → kindFrom a l ≡ Some C
 some-children (Some v) l e = let z : _≡_ {A = ℕ} 0 1 = cc in absurd (omega arith)
 some-children None l e = by-test (length l) (ltb 0 (length l)) refl e
 
-short-by : (l : List Child) (b : Bool) → length l ≤ 16 → length (cond b l []) ≤ 16
-short-by l true h = h
-short-by l false h = omega arith
-
 short : (ss : List Shape) (cs : List Child) (s : Shape) → length (partsOf ss cs s) ≤ 16
 short ss cs (Cuboid v) = omega arith
-short ss cs (Group f n) = short-by (partOf cs f n) (allFit ss (partOf cs f n)) (part-short cs f n)
-
-fit-by : (ss : List Shape) (l : List Child) (b : Bool) → allFit ss l ≡ b → T (allFit ss (cond b l []))
-fit-by ss l true e = subst T (sym e) tt
-fit-by ss l false e = tt
+short ss cs (Group f n) = passing-short (childFits ss) (partOf cs f n) (part-short cs f n)
 
 parts-fit : (ss : List Shape) (cs : List Child) (s : Shape) → T (allFit ss (partsOf ss cs s))
 parts-fit ss cs (Cuboid v) = tt
-parts-fit ss cs (Group f n) = fit-by ss (partOf cs f n) (allFit ss (partOf cs f n)) refl
-
--- what holds of each child that fits holds of all children
-each-fits : (ss : List Shape) (P : Child → Type 0) → ((c : Child) → T (childFits ss c) → P c) → (l : List Child) → T (allFit ss l) → All P l
-each-fits ss P k [] h = tt
-each-fits ss P k (c ∷ l) h = (k c (first-of (childFits ss c) (allFit ss l) h), each-fits ss P k l (second-of (childFits ss c) (allFit ss l) h))
+parts-fit ss cs (Group f n) = passing-pass (childFits ss) (partOf cs f n)
 
 -- a box has no children, so what has some is a Compound
 compound-by : (s : Shape) (l : List Child) → 1 ≤ length l → (halfOf s ≡ None) → kindFrom (halfOf s) l ≡ Some Compound
@@ -132,10 +119,6 @@ half-by v false e = origin-in
 half-in : (s : Shape) → Each (Bounded one-m) (halfOr (halfOf s))
 half-in (Cuboid v) = half-by v (sided v) refl
 half-in (Group f n) = origin-in
-
--- a place, and a child's place in range
-sum-in-five : (p c : Vector) → Each (Bounded reach) p → Each (Bounded one-m) c → Each (Bounded five-m) (sumOf p c)
-sum-in-five p c a b = (child-place (p .x) (c .x) (a .0) (b .0), child-place (p .y) (c .y) (a .1) (b .1), child-place (p .z) (c .z) (a .2) (b .2))
 
 fit-place : (o : Option Vector) (p : Pose) → T (fitsAt o p) → Each (Bounded one-m) (p .translation)
 fit-place o p h = in-million-all (p .translation) (place-ranged p (fit-range o p h))
@@ -206,10 +189,10 @@ slideLawful ss cs = record {
   times = λ q p t e. no-time t e;
   turning = λ q p. turns-under-caps Unsupported (q .dt) no-time;
   few = λ s e. (some-children (halfSides ss s) (childrenOf ss cs s) e, short ss cs (shapeAt ss s));
-  children = λ s. each-fits ss (SoundChild (slideAnswers ss cs)) (sound ss cs) (childrenOf ss cs s) (parts-fit ss cs (shapeAt ss s));
+  children = λ s. each-passes (childFits ss) (SoundChild (slideAnswers ss cs)) (sound ss cs) (childrenOf ss cs s) (parts-fit ss cs (shapeAt ss s));
   childless = λ s h. compound ss cs (shapeAt ss s) h;
   boxes = λ s k p e a. box-finite ss (childrenOf ss cs s) p (halfSides ss s) (parts-fit ss cs (shapeAt ss s)) (half-in (shapeAt ss s)) a;
-  child-boxes = λ s p a. each-fits ss (λ c. FiniteBox (slideAnswers ss cs .aabb (c .shape) (productOf p (c .pose)))) (λ c h. fit-box-finite ss (childrenOf ss cs (c .shape)) p (c .pose) (halfSides ss (c .shape)) h (half-in (shapeAt ss (c .shape))) a) (childrenOf ss cs s) (parts-fit ss cs (shapeAt ss s));
+  child-boxes = λ s p a. each-passes (childFits ss) (λ c. FiniteBox (slideAnswers ss cs .aabb (c .shape) (productOf p (c .pose)))) (λ c h. fit-box-finite ss (childrenOf ss cs (c .shape)) p (c .pose) (halfSides ss (c .shape)) h (half-in (shapeAt ss (c .shape))) a) (childrenOf ss cs s) (parts-fit ss cs (shapeAt ss s));
   inside = λ w t I A. let k = inside-a-sweep w t I (A .start-range) (A .end-range) in (k .range, k .admitted-there);
   inside-products = λ w t r I A R a b. inside-a-sweep w t I (A .start-range) (A .end-range) .product r R;
 }

@@ -22,7 +22,7 @@ use Rattle.outcomes.specs.Outcomes.{yesOrNo}
 use Rattle.hosts.specs.declared.questions.Child.{Child}
 use Rattle.hosts.specs.declared.questions.CastQuery.{CastQuery}
 use Rattle.hosts.specs.Hosts.{Answers}
-use Rattle.hosts.specs.Children.{partOf}
+use Rattle.hosts.specs.Children.{partOf, allPass, passing}
 use Rattle.hosts.specs.Turnless.{admitted, productOf, inverseOf, relativeOf, poseAlong, strokeOf}
 use Rattle.strokes.specs.Strokes.{meetingOf, answered, answeredIfMet, countedFor, soonerOf}
 use Rattle.slide.specs.declared.shapes.Shape.{Shape}
@@ -55,12 +55,11 @@ abbrev pub childFits : List Shape → Child → Bool
 childFits ss c = fitsAt (halfSides ss (c .shape)) (c .pose)
 
 abbrev pub allFit : List Shape → List Child → Bool
-allFit ss [] = true
-allFit ss (c ∷ cs) = childFits ss c && allFit ss cs
+allFit ss cs = allPass (childFits ss) cs
 
 abbrev pub partsOf : List Shape → List Child → Shape → List Child
 partsOf ss cs (Cuboid v) = []
-partsOf ss cs (Group f n) = cond (allFit ss (partOf cs f n)) (partOf cs f n) []
+partsOf ss cs (Group f n) = passing (childFits ss) (partOf cs f n)
 
 -- the children of a Compound that is known, and of no other shape
 abbrev pub childrenOf : List Shape → List Child → ℕ → List Child
