@@ -1,4 +1,5 @@
-//! Which shapes are swept, in which pieces, and which cast a target takes.
+//! Which shapes are swept, in which pieces, and which cast a target takes. A port of parts of `sweeps.rs` of rapier3d 0.35.3,
+//! changed: see NOTICE.
 ghost use mathlib.Core.Path.{_≡_};
 ghost use Rattle.casts.specs.Pieces.{isProxy, hasProxy, sweptBy, targetKindOf, childSweep, castAt};
 use geometry::ShapeKind;

@@ -1,4 +1,5 @@
-//! Which colliders may interact: memberships and filters of 32 groups.
+//! Which colliders may interact: memberships and filters of 32 groups. A port of `interaction_groups.rs` of rapier3d 0.35.3,
+//! changed: see NOTICE.
 ghost use mathlib.Core.Path.{_≡_};
 ghost use Rattle.geometry.specs.Groups.{allGroups, noGroups, agreeAnd, agreeOr, agree, modeNumber, modeOf};
 

@@ -4,7 +4,7 @@ use mathlib.Core.List.{List, _∷_}
 use Prim.Native.Nat.{ℕ}
 use lib.ListN.{length}
 use Rattle.std.specs.declared.result.Result.{Result}
-use Rattle.std.specs.declared.result.Result.the-variants.{Ok, Err}
+use Rattle.std.specs.declared.result.Result.the-variants.{Ok}
 use Rattle.texts.specs.declared.cuts.Until.the-variants.{Blank, Nonblank}
 use Rattle.texts.specs.declared.trouble.Trouble.{Trouble}
 use Rattle.texts.specs.Cuts.{frontOf, pastOf}

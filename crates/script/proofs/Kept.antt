@@ -16,7 +16,7 @@ use Rattle.texts.specs.declared.trouble.Trouble.the-variants.{TooManyChildren}
 use Rattle.texts.specs.Places.{andThen}
 use Rattle.script.specs.declared.command.Children.{Children}
 use Rattle.script.specs.Parts.{childOf, blank, noChildren, childrenOf}
-use Rattle.script.specs.Laws.{Kept, Gathered}
+use Rattle.script.specs.Laws.{Gathered}
 
 -- what is gathered from the children cs on
 record After (ws : List (List ℕ)) (cs ds : Children) : Type 0 where

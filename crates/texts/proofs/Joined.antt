@@ -1,24 +1,20 @@
 -- Words and parts that are joined come apart again. Assumes nothing.
-use mathlib.Core.Path.{_≡_, refl, sym, ap, _∙_}
-use mathlib.Core.Bool.{Bool, true, false, cond}
+use mathlib.Core.Path.{_≡_, refl, ap, _∙_}
+use mathlib.Core.Bool.{Bool, false, cond}
 use mathlib.Core.List.{List, [], _∷_, _++_}
-use Prim.Native.Nat.{ℕ, _<_}
+use Prim.Native.Nat.{ℕ}
 use native.Mathlib.Omega.{arith}
-use lib.Dec.{eqb}
 use lib.Ieee.{Float}
-use lib.ListN.{length}
 use Rattle.std.specs.declared.result.Result.{Result}
 use Rattle.std.specs.declared.result.Result.the-variants.{Ok}
 use Rattle.std.specs.shelf.Lists.{All}
 use Rattle.std.proofs.shelf.Tests.{eq-eqb}
 use Rattle.geometry.specs.Vectors.{vector}
-use Rattle.geometry.specs.Poses.{placed}
 use Rattle.texts.specs.declared.trouble.Trouble.{Trouble}
 use Rattle.texts.specs.declared.places.Joined.{Joined}
 use Rattle.texts.specs.Cuts.{isBlank, lengthened, partsOf}
 use Rattle.texts.specs.Words.{before, wordsOf}
-use Rattle.texts.specs.Reals.{numberOf}
-use Rattle.texts.specs.Places.{andThen, noNumbers, withNumber, numbersOf, placeFrom, poseFrom, placeOf, poseOf}
+use Rattle.texts.specs.Places.{andThen, noNumbers, withNumber, numbersOf, placeFrom, poseFrom, poseOf}
 use Rattle.texts.specs.Laws.{joinedFrom, joinedBy, IsWord, Lacks, Says, Joins}
 
 -- ---- words

@@ -12,7 +12,6 @@ use lib.Ieee.Exact.{HasValue}
 use lib.Ieee.Fits.{up-pos, down-pos}
 use lib.Ieee.Scale.{round-same}
 use Rattle.std.proofs.shelf.Tests.{ne-eqb}
-use Rattle.texts.specs.Reals.{decimalOf}
 use Rattle.texts.specs.Laws.{RoundedOnce}
 
 whole : (m : ℕ) → m ≤ 16777216 → HasValue (ofInt binary32 (pos m)) false m 1

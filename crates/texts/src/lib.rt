@@ -17,6 +17,5 @@ pub use places::pose;
 pub use reals::number;
 pub use trouble::Trouble;
 pub use words::from_word;
-pub use words::past_word;
 pub use words::spells;
 pub use words::word_at;

@@ -16,7 +16,7 @@ pub fn spells(word: &[u8], text: &[u8]) -> bool
 }
 
 /// What follows the first word.
-pub fn past_word(text: &[u8]) -> &[u8]
+pub(crate) fn past_word(text: &[u8]) -> &[u8]
     ensures { λ r. ⌜ now r ≡ pastWord (now (text .entry)) ⌝ }
 {
     past(past(text, Until::Nonblank), Until::Blank)

@@ -3,12 +3,12 @@ use mathlib.Core.List.{List}
 use Prim.Native.Nat.{ℕ, _<_}
 use native.Mathlib.Omega.{arith}
 use borrow.Author.Tests.{eqb-true, eqb-false}
-use lib.ListN.{length, drop, length-drop}
+use lib.ListN.{length, drop}
 use Rattle.std.specs.declared.result.Result.the-variants.{Ok}
 use Rattle.std.proofs.shelf.Results.{err-from-errBy}
 use Rattle.texts.specs.declared.cuts.Until.the-variants.{Mark}
 use Rattle.texts.specs.declared.places.Joined.{Joined}
-use Rattle.texts.specs.Cuts.{reachOf, pastOf, partsOf}
+use Rattle.texts.specs.Cuts.{pastOf, partsOf}
 use Rattle.texts.specs.Reals.{numberOf}
 use Rattle.texts.specs.Places.{withNumber, numbersOf}
 use Rattle.texts.proofs.PartSteps.{bad-part, last-part, next-part, shorter}
