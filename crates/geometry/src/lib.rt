@@ -10,8 +10,17 @@ mod vector;
 
 pub use aabb::Aabb;
 pub use handle::ColliderHandle;
+pub use handle::ColliderHandleDebug;
+pub use handle::ColliderHandleEq;
+pub use handle::ColliderHandlePartialEq;
 pub use handle::Handle;
+pub use handle::HandleDebug;
+pub use handle::HandleEq;
+pub use handle::HandlePartialEq;
 pub use handle::RigidBodyHandle;
+pub use handle::RigidBodyHandleDebug;
+pub use handle::RigidBodyHandleEq;
+pub use handle::RigidBodyHandlePartialEq;
 pub use interaction_groups::InteractionGroups;
 pub use interaction_groups::InteractionTestMode;
 pub use pose::Pose;

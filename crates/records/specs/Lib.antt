@@ -1,0 +1,6 @@
+pub mod Faults
+pub mod Lists
+pub mod ListLaws
+pub mod Bodies
+pub mod Colliders
+pub mod Equality

@@ -1,0 +1,5 @@
+pub mod Scanned
+pub mod Owned
+pub mod Decided
+pub mod Poses
+pub mod Follows
