@@ -1,3 +1,2 @@
-pub mod Blanks
 pub mod Searches
 pub mod Singles

@@ -4,12 +4,12 @@ use geometry::ColliderHandle;
 use geometry::Handle;
 use geometry::Vector;
 
-pub fn collider(slot: u32, generation: u32) -> ColliderHandle {
+pub(crate) fn collider(slot: u32, generation: u32) -> ColliderHandle {
     ColliderHandle(Handle { slot, generation })
 }
 
 /// The box from one number to another on each axis.
-pub fn cube(least: f32, greatest: f32) -> Aabb {
+pub(crate) fn cube(least: f32, greatest: f32) -> Aabb {
     Aabb {
         mins: Vector::splat(least),
         maxs: Vector::splat(greatest),

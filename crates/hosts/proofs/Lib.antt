@@ -1,4 +1,5 @@
 pub mod Turns
+pub mod Blanks
 pub mod Parts
 pub mod Places
 pub mod Insides

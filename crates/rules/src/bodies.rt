@@ -106,7 +106,7 @@ fn body_slot_holds(colliders: &[Slot<Collider>], at: u32, slot: &Slot<RigidBody>
 }
 
 /// Whether each live body obeys the rules.
-pub fn bodies_hold(colliders: &[Slot<Collider>], bodies: &[Slot<RigidBody>]) -> bool
+pub(crate) fn bodies_hold(colliders: &[Slot<Collider>], bodies: &[Slot<RigidBody>]) -> bool
     requires { ⌜ length (now bodies) < 2 ^ 32 ⌝ }
     ensures { λ r. ⌜ r ≡ everyLive (bodyRule (now (colliders .entry))) 0 (now (bodies .entry)) ⌝ }
 {

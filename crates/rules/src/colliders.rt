@@ -83,7 +83,7 @@ fn collider_slot_holds<H: Host>(
 }
 
 /// Whether each live collider obeys the rules.
-pub fn colliders_hold<H: Host>(
+pub(crate) fn colliders_hold<H: Host>(
     host: &H,
     bodies: &[Slot<RigidBody>],
     colliders: &[Slot<Collider>],

@@ -18,12 +18,12 @@ use slide::SlideHost;
 use slots::Header;
 use slots::Slot;
 
-pub fn at(x: f32) -> Pose {
+pub(crate) fn at(x: f32) -> Pose {
     Pose::at(Vector { x, y: 0.0, z: 0.0 })
 }
 
 /// The first handle of a store.
-pub fn first() -> Handle {
+pub(crate) fn first() -> Handle {
     Handle {
         slot: 0,
         generation: 0,
@@ -31,7 +31,7 @@ pub fn first() -> Handle {
 }
 
 /// A body at 2 that lists the first collider.
-pub fn body() -> RigidBody {
+pub(crate) fn body() -> RigidBody {
     let mut colliders = ColliderList::empty();
     let _ = colliders.attach(ColliderHandle(first()));
     RigidBody {
@@ -48,7 +48,7 @@ pub fn body() -> RigidBody {
 }
 
 /// Its collider, one further along.
-pub fn part() -> Collider {
+pub(crate) fn part() -> Collider {
     Collider {
         parent: Some(ColliderParent {
             body: RigidBodyHandle(first()),
@@ -66,7 +66,7 @@ pub fn part() -> Collider {
 }
 
 /// A wall.
-pub fn wall() -> Collider {
+pub(crate) fn wall() -> Collider {
     Collider {
         parent: None,
         position: at(8.0),
@@ -82,7 +82,7 @@ fn live<T>(value: T) -> Slot<T> {
 }
 
 /// Whether the rules hold of a hall of these three records.
-pub fn holds(body: RigidBody, part: Collider, wall: Collider) -> bool {
+pub(crate) fn holds(body: RigidBody, part: Collider, wall: Collider) -> bool {
     let shapes = [Shape::Cuboid(Vector::splat(0.5))];
     let host = Slide {
         shapes: &shapes,
@@ -102,7 +102,7 @@ pub fn holds(body: RigidBody, part: Collider, wall: Collider) -> bool {
 }
 
 /// Whether the host admits all poses of a hall of these three records.
-pub fn is_admitted(body: RigidBody, part: Collider, wall: Collider) -> bool {
+pub(crate) fn is_admitted(body: RigidBody, part: Collider, wall: Collider) -> bool {
     let shapes = [Shape::Cuboid(Vector::splat(0.5))];
     let host = Slide {
         shapes: &shapes,

@@ -4,7 +4,7 @@ use Prim.Native.Nat.{_+_}
 use lib.ListN.{drop}
 use Rattle.hosts.proofs.Turns.{turned, ended}
 use Rattle.casts.specs.Pieces.{hasProxy}
-use Rattle.casts.proofs.Blanks.{blank}
+use Rattle.hosts.proofs.Blanks.{blank}
 use Rattle.casts.proofs.pieces.has_piece.Needs as need
 
 pub returns-then-is-piece : need.returns-then-is-piece

@@ -4,7 +4,7 @@ use lib.ListN.{drop}
 use Rattle.hosts.proofs.Turns.{turned, ended}
 use Rattle.casts.specs.declared.report.Report.{Report}
 use Rattle.casts.specs.Singles.{castChildren}
-use Rattle.casts.proofs.Blanks.{blank}
+use Rattle.hosts.proofs.Blanks.{blank}
 use Rattle.casts.proofs.single.cast_children.Needs as need
 
 pub loop-child-again : need.loop-child-again

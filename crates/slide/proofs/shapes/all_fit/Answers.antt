@@ -4,7 +4,7 @@ use Prim.Native.Nat.{_+_}
 use lib.ListN.{drop}
 use Rattle.slide.specs.Slides.{allFit}
 use Rattle.hosts.proofs.Turns.{turned, ended}
-use Rattle.slide.proofs.Blanks.{blank}
+use Rattle.hosts.proofs.Blanks.{blank}
 use Rattle.slide.proofs.shapes.all_fit.Needs as need
 
 pub returns-then-not-child-fits : need.returns-then-not-child-fits

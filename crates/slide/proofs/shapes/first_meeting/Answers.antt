@@ -7,7 +7,7 @@ use Rattle.geometry.specs.declared.aabb.Aabb.{Aabb}
 use Rattle.strokes.specs.Strokes.{soonerOf, countedFor, meetingOf}
 use Rattle.slide.specs.Slides.{firstMeeting}
 use Rattle.hosts.proofs.Turns.{turned, ended}
-use Rattle.slide.proofs.Blanks.{blank}
+use Rattle.hosts.proofs.Blanks.{blank}
 use Rattle.slide.proofs.shapes.first_meeting.Needs as need
 
 pub loop-child-again : need.loop-child-again

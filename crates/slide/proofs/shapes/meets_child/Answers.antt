@@ -5,7 +5,7 @@ use lib.ListN.{drop}
 use Rattle.geometry.specs.Boxes.{meetOf}
 use Rattle.slide.specs.Slides.{meetsChild}
 use Rattle.hosts.proofs.Turns.{turned, ended}
-use Rattle.slide.proofs.Blanks.{blank}
+use Rattle.hosts.proofs.Blanks.{blank}
 use Rattle.slide.proofs.shapes.meets_child.Needs as need
 
 pub returns-then-intersects : need.returns-then-intersects

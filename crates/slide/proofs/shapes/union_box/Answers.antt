@@ -5,7 +5,7 @@ use Rattle.std.specs.declared.option.Option.the-variants.{Some}
 use Rattle.geometry.specs.declared.aabb.Aabb.{Aabb}
 use Rattle.slide.specs.Slides.{unionOf, joinedWith}
 use Rattle.hosts.proofs.Turns.{turned, ended}
-use Rattle.slide.proofs.Blanks.{blank}
+use Rattle.hosts.proofs.Blanks.{blank}
 use Rattle.slide.proofs.shapes.union_box.Needs as need
 
 pub loop-child-again : need.loop-child-again

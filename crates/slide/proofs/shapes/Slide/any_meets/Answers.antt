@@ -12,7 +12,7 @@ use Rattle.slide.specs.declared.shapes.Shape.{Shape}
 use Rattle.geometry.specs.Vectors.{origin}
 use Rattle.slide.specs.Slides.{anyMeets, meetsShape, childBox}
 use Rattle.hosts.proofs.Turns.{turned, ended}
-use Rattle.slide.proofs.Blanks.{blank}
+use Rattle.hosts.proofs.Blanks.{blank}
 use Rattle.slide.proofs.shapes.Slide.any_meets.Needs as need
 
 -- one turn, by what `meets_shape` answered
