@@ -7,7 +7,6 @@ use lib.Ieee.{Float, binary32, ofBits}
 use Rattle.std.specs.declared.option.Option.{Option}
 use Rattle.std.specs.declared.option.Option.the-variants.{Some, None}
 use Rattle.numbers.specs.Constants.{zeroF, oneF}
-use Rattle.numbers.specs.Least.{least}
 use Rattle.geometry.specs.declared.pose.Pose.{Pose}
 use Rattle.geometry.specs.declared.shape_kind.ShapeKind as Kinds
 use Rattle.geometry.specs.declared.interaction_groups.InteractionTestMode.{InteractionTestMode}
@@ -22,7 +21,7 @@ use Rattle.outcomes.specs.Impacts.{solidImpact, pseudoImpact}
 use Rattle.hosts.specs.declared.questions.Sweep.{Sweep}
 use Rattle.hosts.specs.declared.questions.CastQuery.{CastQuery}
 use Rattle.hosts.specs.Hosts.{Answers}
-use Rattle.slide.specs.declared.shapes.Shape.{Shape}
+use Rattle.strokes.specs.Strokes.{soonerOf}
 use Rattle.slide.specs.declared.shapes.Shape.the-variants.{Cuboid}
 use Rattle.slide.specs.Slides.{slideAnswers}
 use Rattle.recorded.specs.declared.rows.Listed.{Listed}
@@ -99,6 +98,12 @@ abbrev pub AllHold : List Case → Type 0
 AllHold [] = Unit {0}
 AllHold (c ∷ cs) = Holds c × AllHold cs
 
+-- ---- walls at 4.5 and 2.5: in either order the nearer one counts
+
+-- the solid impact of a wall at a place
+abbrev pub impactAt : Float → Option Float
+impactAt at = solidImpact (λ k. Some (boxes .proxy-cast (toward at) k))
+
 -- ---- groups (1, 2) and (2, 4), as memberships and filter, agree only with both modes Or
 
 abbrev pub modes : List (InteractionTestMode × InteractionTestMode × Bool)
@@ -112,7 +117,6 @@ pub record Measured : Type 0 where
   pub casts : AllHold cases
   -- the carton stopped at 0.4375 stands at 3.5
   pub clamped : boxes .pose-at sweep (bits 0x3ee0_0000) ≡ along-x (bits 0x4060_0000)
-  -- of walls at 4.5 and 2.5, in either order, the nearer one counts
-  pub nearer : least (bits 0x3ee0_0000 ∷ bits 0x3e40_0000 ∷ []) ≡ Some (bits 0x3e40_0000)
-  pub nearer-first : least (bits 0x3e40_0000 ∷ bits 0x3ee0_0000 ∷ []) ≡ Some (bits 0x3e40_0000)
+  pub nearer-last : soonerOf (impactAt (bits 0x4090_0000)) (impactAt (bits 0x4020_0000)) ≡ Some (bits 0x3e40_0000)
+  pub nearer-first : soonerOf (impactAt (bits 0x4020_0000)) (impactAt (bits 0x4090_0000)) ≡ Some (bits 0x3e40_0000)
   pub groups-agree : AllAgree modes

@@ -1,8 +1,6 @@
 use mathlib.Core.Path.{refl}
-use lib.Bits.{bitAnd}
 use lib.Ieee.{ofBits, fits, neg, add, sub, mul, div, lt, le, eq}
 use Rattle.std.specs.Floats.{negative}
-use Rattle.measured.specs.Halls.{Case, Holds}
 use Rattle.measured.proofs.measured_casts_stand.Needs as need
 
 pub returns : need.returns
@@ -25,7 +23,7 @@ returns c = record {
     ),
   );
   clamped = refl;
-  nearer = refl;
+  nearer-last = refl;
   nearer-first = refl;
   groups-agree = (refl, (refl, (refl, (refl, tt))));
 }
