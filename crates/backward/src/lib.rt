@@ -1,4 +1,6 @@
 //! A finder with an order of its own, from the last slot to the first: what holds of any finder holds of it.
+#![tactic(auto)]
+
 ghost use Rattle.std.specs.Prelude.{◌≡◌, ◌^◌, ◌<◌, min, length};
 ghost use Rattle.finders.specs.Finders.{empty};
 ghost use Rattle.finders.specs.Tables.{table_meaning, offered};

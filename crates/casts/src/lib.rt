@@ -1,5 +1,7 @@
 //! One cast of a fast shape at a target, by the kinds of both: which pieces are swept, which cast each gets, and what the pair
 //! takes of it.
+#![tactic(auto)]
+
 mod flight;
 mod pieces;
 mod report;

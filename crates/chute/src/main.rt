@@ -1,4 +1,6 @@
 //! `chute`: reads hall scripts, from standard input or from the files named as arguments, and prints the answer to each line.
+#![tactic(auto)]
+
 use desk::{Answer, Desk, Tally, after_line, first_line};
 use printout::{Counts, Shown};
 use script::word;

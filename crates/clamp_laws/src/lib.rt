@@ -1,4 +1,6 @@
 //! What clamping does to the bodies, in the words of the rules.
+#![tactic(auto)]
+
 ghost use Rattle.clamp_laws.specs.ClampLaws.{ClampsAreExact, ClampsKeepTheRules};
 
 /// Exactly the bodies with a fraction below 1 are clamped, to the pose at their fraction, and nothing else of any record changes.

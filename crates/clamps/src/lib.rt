@@ -1,4 +1,6 @@
 //! Stopping bodies on their way. A port of `apply_clamps` of `ccd_solver.rs` of rapier3d 0.35.3, changed: see NOTICE.
+#![tactic(auto)]
+
 ghost use Rattle.std.specs.Prelude.{◌≡◌};
 ghost use Rattle.clamps.specs.Clamps.{below, clamp_count, stopped_at, clamped_one, clamped_all};
 

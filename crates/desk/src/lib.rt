@@ -1,4 +1,6 @@
 //! The estimator's desk: the lists of one hall, and the answers to its commands.
+#![tactic(auto)]
+
 mod answers;
 mod lines;
 mod lists;

@@ -1,4 +1,6 @@
 //! Examples of finders and filters, run.
+#![tactic(auto)]
+
 #[cfg(test)]
 mod filters;
 #[cfg(test)]

@@ -1,4 +1,6 @@
 //! The broad phase and the rule for barred pairs: two interfaces with their laws, and what is delivered of each.
+#![tactic(auto)]
+
 mod barred_pairs;
 mod entry;
 mod filter;

@@ -1,4 +1,6 @@
 //! Places, turns, poses, boxes, groups, handles and kinds: small records and enums, passed by value.
+#![tactic(auto)]
+
 mod aabb;
 mod handle;
 mod interaction_groups;

@@ -1,4 +1,6 @@
 //! The measured casts, computed from the definitions of both hosts.
+#![tactic(auto)]
+
 ghost use Rattle.measured.specs.Halls.{Measured};
 
 /// Each measured cast and each measured pair of groups answers what was measured.

@@ -1,4 +1,6 @@
 //! Laws of single-precision numbers, and the few operations on them that everything above is built from.
+#![tactic(auto)]
+
 pub mod laws;
 
 ghost use Rattle.std.specs.Prelude.{◌≡◌, [], MatchOption};

@@ -1,4 +1,6 @@
 //! What casts and overlap tests answer, and what a solid or a pseudo pair takes of it.
+#![tactic(auto)]
+
 mod cast_outcome;
 mod overlap;
 mod pair_kind;

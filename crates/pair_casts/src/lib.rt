@@ -1,5 +1,7 @@
 //! The casts of one pair: how the fast shape is swept, and what the pair takes of its casts at a cap. A port of parts of `sweeps.rs`
 //! of rapier3d 0.35.3, changed: see NOTICE.
+#![tactic(auto)]
+
 mod cast;
 mod fast_shape;
 mod target;

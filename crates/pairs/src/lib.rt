@@ -1,5 +1,7 @@
 //! Which pairs of colliders are cast: admission, solid or pseudo, and where a target stands. A port of parts of `sweeps.rs` of
 //! rapier3d 0.35.3, changed: see NOTICE.
+#![tactic(auto)]
+
 mod admission;
 mod fast_collider;
 mod target;

@@ -1,4 +1,6 @@
 //! How the answers of a desk are written, for people and for programs.
+#![tactic(auto)]
+
 use casts::{CastRefusal, Report};
 use desk::{Answer, Tally};
 use geometry::Pose;

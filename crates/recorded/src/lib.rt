@@ -1,4 +1,6 @@
 //! The recorded host: shapes and answers that are listed.
+#![tactic(auto)]
+
 mod recorded_host;
 mod rows;
 

@@ -1,4 +1,6 @@
 //! The records of a bench: bodies with the lists of their colliders, colliders, and the reasons of refusals.
+#![tactic(auto)]
+
 mod collider;
 mod collider_list;
 mod equality;

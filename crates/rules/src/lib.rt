@@ -1,5 +1,7 @@
 //! The rules of a bench, tested on whatever is lent: one pass over each store, a constant number of steps for each slot and for each
 //! of a body's eight entries.
+#![tactic(auto)]
+
 mod admitted;
 mod bodies;
 mod colliders;

@@ -1,4 +1,6 @@
 //! One line of a hall script, read into a command or the trouble with it.
+#![tactic(auto)]
+
 mod children;
 mod choices;
 mod command;

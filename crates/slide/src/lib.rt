@@ -1,4 +1,6 @@
 //! The slide host: boxes and Compounds of boxes, which slide along straight strokes and never turn.
+#![tactic(auto)]
+
 mod shapes;
 mod slide_host;
 

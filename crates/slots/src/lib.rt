@@ -10,6 +10,7 @@
 //!
 //! Lent memory may hold anything. So no call requires anything of it: each is defined on any content, `valid` tells whether the rules
 //! are obeyed, and where they are, no call answers `Fault::Broken`.
+#![tactic(auto)]
 
 ghost use Rattle.std.specs.Prelude.{◌≡◌, ◌<◌, true, length, is_some, IfOk, Decides};
 ghost use Rattle.std.specs.Option.{option_map};

@@ -1,4 +1,6 @@
 //! What a solve does, in the words of the rules.
+#![tactic(auto)]
+
 ghost use Rattle.solve_laws.specs.Boxed.{FixedListIsExact};
 ghost use Rattle.solve_laws.specs.FirstImpacts.{TimesHold, FirstImpactIsLeast};
 ghost use Rattle.solve_laws.specs.Further.{FurtherCollidersNeverHelp};

@@ -1,4 +1,6 @@
 //! The slot store and the test of what is lent, at their limits. Each expectation was worked out by hand from the rules.
+#![tactic(auto)]
+
 #[cfg(test)]
 mod hall;
 #[cfg(test)]

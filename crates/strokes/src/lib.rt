@@ -1,4 +1,6 @@
 //! When a box that moves along a straight stroke meets one that stands still.
+#![tactic(auto)]
+
 ghost use Rattle.std.specs.Prelude.{◌≡◌};
 ghost use Rattle.strokes.specs.Strokes.{crossing_of, later_of, shared_time, meeting_of, touched, answered, answered_if_met, counted_for, sooner_of};
 ghost use Rattle.strokes.specs.Laws.{CapKept};

@@ -1,4 +1,6 @@
 //! What the sweep of a body finds, in the words of the rules.
+#![tactic(auto)]
+
 ghost use Rattle.sweep_laws.specs.SweepLaws.{FractionIsLeast, ExactlyTheAdmitted, HitsAreTheCrossed};
 
 /// The fraction of a swept body is the least solid impact of its admitted solid pairs, or 1 where there is none, whatever the order in

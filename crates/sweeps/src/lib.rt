@@ -1,5 +1,7 @@
 //! One body's sweep: its colliders, what the finder reports of each, and the pairs that are cast. A port of parts of `sweeps.rs` of
 //! rapier3d 0.35.3, changed: see NOTICE.
+#![tactic(auto)]
+
 mod candidates;
 mod colliders;
 mod hall;

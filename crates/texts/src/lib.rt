@@ -1,4 +1,6 @@
 //! The texts of a hall script: words, shape numbers, numbers, places and poses.
+#![tactic(auto)]
+
 mod cuts;
 mod digits;
 pub mod laws;
