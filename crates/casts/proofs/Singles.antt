@@ -2,7 +2,7 @@
 use Rattle.std.proofs.Common.{◌≡◌, ℕ, suc, ◌≤◌, Bool, true, false, cond, ◌&&◌, T, ◌⊎◌, List, [], ◌∷◌, length, Some, None, Ok, Err, MatchBool, Option, sym, refl, ap, ◌∙◌, subst, inl, inr, arith}
 use lib.Ieee.{Float, binary32, of_bits, fits, lt, le}
 use lib.Ieee.Scale.{finite}
-use Rattle.std.specs.List.{best_of, AllByRecursion as All}
+use Rattle.std.specs.List.{best_of, AllByRecursion}
 use Rattle.std.specs.Bool.{passes}
 use Rattle.numbers.specs.Constants.{zero_f, one_f, million}
 use Rattle.numbers.specs.Least.{least}
@@ -62,11 +62,11 @@ module _ (h : Answers) (L : Lawful h) where
         took_inner (piece_cast h f t p.0 p.1) (λ c k. cast_clean (query_of f p.0 p.1) t f.pair c k) s
         (ap (λ (x : PairKind). took_of x (piece_cast h f t p.0 p.1)) (sym solid) ∙ e)
 
-    found_inner : (o : Option Float) (is : List Float) → ((s : Float) → o ≡ Some s → Inner s) → All Inner is → All Inner (found o is)
+    found_inner : (o : Option Float) (is : List Float) → ((s : Float) → o ≡ Some s → Inner s) → AllByRecursion Inner is → AllByRecursion Inner (found o is)
     found_inner None is k a = a
     found_inner (Some i) is k a = (k i refl, a)
 
-    all_inner : (ps : List (ℕ × Sweep)) → All Inner (impacts_of h f t ps)
+    all_inner : (ps : List (ℕ × Sweep)) → AllByRecursion Inner (impacts_of h f t ps)
     all_inner [] = tt
     all_inner (p ∷ ps) = found_inner (took_of f.pair (piece_cast h f t p.0 p.1)) (impacts_of h f t ps) (piece_inner p) (all_inner ps)
 
@@ -74,11 +74,11 @@ module _ (h : Answers) (L : Lawful h) where
   either_inner a b p q true = p
   either_inner a b p q false = q
 
-  best_inner : (b : Float) (is : List Float) → Inner b → All Inner is → Inner (best_of lt b is)
+  best_inner : (b : Float) (is : List Float) → Inner b → AllByRecursion Inner is → Inner (best_of lt b is)
   best_inner b [] p a = p
   best_inner b (i ∷ is) p a = best_inner (cond (lt i b) i b) is (either_inner i b a.0 p (lt i b)) a.1
 
-  least_inner : (is : List Float) (s : Float) → All Inner is → least is ≡ Some s → Inner s
+  least_inner : (is : List Float) (s : Float) → AllByRecursion Inner is → least is ≡ Some s → Inner s
   least_inner [] s a e = let z : ◌≡◌ {A = ℕ} 0 1 = cc in absurd (omega arith)
   least_inner (i ∷ is) s a e = let same : best_of lt i is ≡ s = cc in subst Inner same (best_inner i is a.0 a.1)
 

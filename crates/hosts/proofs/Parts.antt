@@ -1,6 +1,6 @@
 -- A part of a list of children has at most 16, and what a test lets pass holds of each of them. Assumes nothing.
 use Rattle.std.proofs.Common.{◌≡◌, ℕ, ◌-◌, ◌≤◌, Bool, true, false, cond, ◌&&◌, T, leb, List, [], ◌∷◌, length, take, drop, refl, arith, length-take, leb-true}
-use Rattle.std.specs.List.{AllByRecursion as All}
+use Rattle.std.specs.List.{AllByRecursion}
 use Rattle.std.specs.Bool.{passes}
 use Rattle.numbers.proofs.Ranges.{first_of, second_of}
 use Rattle.outcomes.proofs.Caps.{on}
@@ -36,6 +36,6 @@ pub passing_pass : (test : Child → Bool) (l : List Child) → T (all_pass test
 passing_pass test l = passing_by test l (all_pass test l) refl
 
 -- what holds of each child that passes holds of all children
-pub each_passes : (test : Child → Bool) (P : Child → Type 0) → ((c : Child) → T (test c) → P c) → (l : List Child) → T (all_pass test l) → All P l
+pub each_passes : (test : Child → Bool) (P : Child → Type 0) → ((c : Child) → T (test c) → P c) → (l : List Child) → T (all_pass test l) → AllByRecursion P l
 each_passes test P k [] h = tt
 each_passes test P k (c ∷ l) h = (k c (first_of (test c) (all_pass test l) h), each_passes test P k l (second_of (test c) (all_pass test l) h))

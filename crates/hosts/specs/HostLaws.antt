@@ -2,7 +2,7 @@
 use Rattle.std.specs.Prelude.{◌≡◌, ℕ, ◌≤◌, T, List, length, Some, None, Option, Float}
 use Rattle.std.specs.Float.{binary32}
 use Rattle.std.specs.Float.Ieee.{fits, lt}
-use Rattle.std.specs.List.{AllByRecursion as All}
+use Rattle.std.specs.List.{AllByRecursion}
 use Rattle.numbers.specs.Constants.{zero_f, one_f}
 use Rattle.geometry.specs.declared.pose.Pose.{Pose}
 use Rattle.geometry.specs.declared.shape_kind.ShapeKind.{ShapeKind}
@@ -50,11 +50,11 @@ pub record Lawful (h : Answers) : Type 0 where
   pub turning : (q : TurningQuery) (p : PairKind) → TurningLaw (h.turning_cast q p) q.dt
   -- a Compound has 1 to 16 children, each of them sound, and what has children is a Compound
   pub few : (s : ℕ) → h.kind s ≡ Some Compound → (1 ≤ length (h.children s)) × (length (h.children s) ≤ 16)
-  pub children : (s : ℕ) → All (SoundChild h) (h.children s)
+  pub children : (s : ℕ) → AllByRecursion (SoundChild h) (h.children s)
   pub childless : (s : ℕ) → 1 ≤ length (h.children s) → h.kind s ≡ Some Compound
   -- the box of a known shape at an admitted pose is finite, and that of a child at the product with its pose
   pub boxes : (s : ℕ) (k : ShapeKind) (p : Pose) → h.kind s ≡ Some k → T (h.admits p) → FiniteBox (h.aabb s p)
-  pub child_boxes : (s : ℕ) (p : Pose) → T (h.admits p) → All (λ c. FiniteBox (h.aabb c.shape (h.product p c.pose))) (h.children s)
+  pub child_boxes : (s : ℕ) (p : Pose) → T (h.admits p) → AllByRecursion (λ c. FiniteBox (h.aabb c.shape (h.product p c.pose))) (h.children s)
   -- a pose strictly inside a sweep is in range and admitted if both ends are, and its products with a pose in range are admitted if those of both ends are
   pub inside : (w : Sweep) (t : Float) → Inner t → SweepAdmitted h w → InRange (h.pose_at w t) × T (h.admits (h.pose_at w t))
   pub inside_products : (w : Sweep) (t : Float) (r : Pose) → Inner t → SweepAdmitted h w → InRange r → T (h.admits (h.product w.start r)) → T (h.admits (h.product w.end r)) → T (h.admits (h.product (h.pose_at w t) r))

@@ -4,7 +4,7 @@ use lib.Ieee.{Float, nan, inf, fin, Format, lt, le}
 use Rattle.std.specs.Float as Floats
 use Rattle.std.specs.Float.{is_sign_negative}
 use Rattle.std.specs.List.Sorted.{IsPermutation}
-use Rattle.std.specs.List.{best_of, ContainsAt as Has, AllByRecursion as All}
+use Rattle.std.specs.List.{best_of, ContainsAt as Has, AllByRecursion}
 use Rattle.std.proofs.ByRecursion.{all-has, All-weaker, all_has_itself, has_get_or, has_append_left, has_append_right, has_shuffled}
 use Rattle.std.proofs.lemmas.List.Sorted.{IsPermutation-sym}
 use Rattle.std.specs.Float.Order.{le_trans, le_refl, le_of_lt, le_left}
@@ -22,7 +22,7 @@ smaller b x p q = go (lt x b) (λ e. le_of_lt x b (passes (lt x b) e)) (not_lt x
     go true h k e = (q, h e, le_refl x q)
     go false h k e = (p, le_refl b p, k e)
 
-from_below : (b : Float) (xs : List Float) → Number b → All Number xs → T (le (best_of lt b xs) b) × All (λ x. T (le (best_of lt b xs) x)) xs
+from_below : (b : Float) (xs : List Float) → Number b → AllByRecursion Number xs → T (le (best_of lt b xs) b) × AllByRecursion (λ x. T (le (best_of lt b xs) x)) xs
 from_below b [] p q = (le_refl b p, tt)
 from_below b (x ∷ xs) p q =
     let s = smaller b x p q.0 in
@@ -62,7 +62,7 @@ from_has b (x ∷ xs) =
     head_or_tail n m xs (suc k, l, h) = inr (k, omega arith, h)
 
 -- ---- the laws
-pub least_is : (xs : List Float) (m : Float) → All Number xs → least xs ≡ Some m → Least xs m
+pub least_is : (xs : List Float) (m : Float) → AllByRecursion Number xs → least xs ≡ Some m → Least xs m
 least_is [] m p e = let z : ◌≡◌ {A = ℕ} 0 1 = cc in absurd (omega arith)
 least_is (x ∷ xs) m p e =
     let w : best_of lt x xs ≡ m = cc in
@@ -70,7 +70,7 @@ least_is (x ∷ xs) m p e =
     subst (Least (x ∷ xs)) w (from_has x xs, (r.0, r.1))
 
 -- a list of which each element stands in the other has a least value that is no smaller
-pub least_falls : (xs ys : List Float) (m n : Float) → All Number xs → All Number ys → least xs ≡ Some m → least ys ≡ Some n → All (Has ys) xs → T (le n m)
+pub least_falls : (xs ys : List Float) (m n : Float) → AllByRecursion Number xs → AllByRecursion Number ys → least xs ≡ Some m → least ys ≡ Some n → AllByRecursion (Has ys) xs → T (le n m)
 least_falls xs ys m n p q d e h =
     let a = least_is xs m p d in
     let b = least_is ys n q e in
@@ -108,7 +108,7 @@ pub proper_plain : (f : Format) (x : Float) → Proper f x → Plain f x
 proper_plain f x p = (p.0, proper_number f x p, above_plain x p.1)
 
 -- two lists with the same elements have one least value
-pub least_same : (f : Format) (xs ys : List Float) → All (Plain f) xs → All (Plain f) ys → All (Has ys) xs → All (Has xs) ys → least xs ≡ least ys
+pub least_same : (f : Format) (xs ys : List Float) → AllByRecursion (Plain f) xs → AllByRecursion (Plain f) ys → AllByRecursion (Has ys) xs → AllByRecursion (Has xs) ys → least xs ≡ least ys
 least_same f [] [] p q h k = refl
 least_same f [] (y ∷ ys) p q h k = absurd (no_member y k.0)
 least_same f (x ∷ xs) [] p q h k = absurd (no_member x h.0)
@@ -123,7 +123,7 @@ least_same f (x ∷ xs) (y ∷ ys) p q h k =
     (least_falls (y ∷ ys) (x ∷ xs) n m Q P refl refl k, least_falls (x ∷ xs) (y ∷ ys) m n P Q refl refl h))
 
 -- the order of the list does not count
-pub least_shuffled : (f : Format) (xs ys : List Float) → All (Plain f) xs → All (Plain f) ys → IsPermutation xs ys → least xs ≡ least ys
+pub least_shuffled : (f : Format) (xs ys : List Float) → AllByRecursion (Plain f) xs → AllByRecursion (Plain f) ys → IsPermutation xs ys → least xs ≡ least ys
 least_shuffled f xs ys p q s =
     least_same f xs ys p q
     (All-weaker (Has xs) (Has ys) (λ x h. has_shuffled xs ys x s h) xs (all_has_itself xs))

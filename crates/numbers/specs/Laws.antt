@@ -4,7 +4,7 @@ use Rattle.std.specs.Float.Ieee.{unlike, add, sub, mul, div, neg, fits, lt, le, 
 use Rattle.std.specs.Float.Ieee.Scale.{finite}
 use Rattle.std.specs.Float.{float_zero, float_one, is_sign_negative, binary32}
 use Rattle.std.specs.List.Sorted.{IsPermutation}
-use Rattle.std.specs.List.{ContainsAt as Has, AllByRecursion as All}
+use Rattle.std.specs.List.{ContainsAt as Has, AllByRecursion}
 use Rattle.numbers.specs.Reals.{Number, Real, Same, Within, ranged, is_zero}
 use Rattle.numbers.specs.Least.{least, Least, Plain, Proper}
 use Rattle.numbers.specs.Along.{From}
@@ -23,9 +23,9 @@ pub record Ordered : Type 0 where
 
 -- The least of a list stands in it, is below all of it, falls as the list grows, and does not turn on the list's order.
 pub record LeastOf : Type 0 where
-  pub is : (xs : List Float) (m : Float) → All Number xs → least xs ≡ Some m → Least xs m
-  pub falls : (xs ys : List Float) (m n : Float) → All Number xs → All Number ys → least xs ≡ Some m → least ys ≡ Some n → All (Has ys) xs → T (le n m)
-  pub any_order : (xs ys : List Float) → All (Plain binary32) xs → All (Plain binary32) ys → IsPermutation xs ys → least xs ≡ least ys
+  pub is : (xs : List Float) (m : Float) → AllByRecursion Number xs → least xs ≡ Some m → Least xs m
+  pub falls : (xs ys : List Float) (m n : Float) → AllByRecursion Number xs → AllByRecursion Number ys → least xs ≡ Some m → least ys ≡ Some n → AllByRecursion (Has ys) xs → T (le n m)
+  pub any_order : (xs ys : List Float) → AllByRecursion (Plain binary32) xs → AllByRecursion (Plain binary32) ys → IsPermutation xs ys → least xs ≡ least ys
   pub proper : (x : Float) → Proper binary32 x → Plain binary32 x
 
 -- At a finite limit the test of a range holds exactly of the finite values of the format within the limit.

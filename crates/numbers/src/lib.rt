@@ -5,7 +5,7 @@ pub mod laws;
 
 ghost use Rattle.std.specs.Prelude.{◌≡◌, [], MatchOption};
 ghost use Rattle.std.specs.Float.{binary32};
-ghost use Rattle.std.specs.List.{AllByRecursion as All};
+ghost use Rattle.std.specs.List.{AllByRecursion};
 ghost use Rattle.numbers.specs.Least.{least, Least};
 ghost use Rattle.numbers.specs.Along.{along, reach, Fraction, OnTheWay};
 ghost use Rattle.numbers.specs.Reals.{Number, Within, ranged};
@@ -28,7 +28,7 @@ pub fn lerp(s: f32, e: f32, f: f32) -> f32
 /// The first of the smallest elements of `xs`.
 pub fn smallest(xs: &[f32]) -> Option<f32>
     ensures value { result ≡ least xs.now }
-    ensures law { All Number xs.now → MatchOption result (xs.now ≡ []) (Least xs.now) }
+    ensures law { AllByRecursion Number xs.now → MatchOption result (xs.now ≡ []) (Least xs.now) }
 {
     let [first, rest @ ..] = xs else {
         return None;

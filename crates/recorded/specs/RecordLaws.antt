@@ -5,7 +5,7 @@ use Rattle.std.specs.Float.Ieee.{of_bits, fits, le, lt}
 use Rattle.std.specs.Float.Ieee.Scale.{finite}
 use Rattle.std.proofs.lemmas.Bool.{eqb-false}
 use Rattle.std.specs.Float.{is_sign_negative, binary32}
-use Rattle.std.specs.List.{AllByRecursion as All, slice_get}
+use Rattle.std.specs.List.{AllByRecursion, slice_get}
 use Rattle.std.specs.Bool.{passes, fails}
 use Rattle.std.specs.Float.Order.{lt_irrefl, le_of_lt, le_right}
 use Rattle.numbers.specs.Along.{reach}

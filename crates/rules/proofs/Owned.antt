@@ -1,6 +1,6 @@
 -- The list of a body: no handle twice, and each of a collider that names the body. Assumes nothing.
 use Rattle.std.proofs.Common.{◌≡◌, zero, suc, true, not, List, [], ◌∷◌, Some, None, Decides, Option, sym, refl, ap, subst, arith}
-use Rattle.std.specs.List.{ContainsAt as Has, AllByRecursion as All}
+use Rattle.std.specs.List.{ContainsAt as Has, AllByRecursion}
 use Rattle.std.proofs.ByRecursion.{all-has, all_has_itself, All-weaker, has_get_or, Decides-by_and}
 use Rattle.std.proofs.lemmas.Bool.{and_parts, and_from}
 use Rattle.std.proofs.lemmas.Bool.Decides.{Decides-like, Decides-not}
@@ -65,7 +65,7 @@ module _ (cs : List (Slot Collider)) (h : RigidBodyHandle) where
   pub owns_all_decides : (ks : List ColliderHandle) → Decides (owns_all cs h ks) ((k : ColliderHandle) → Has ks k → Names cs k h)
   owns_all_decides ks =
       let P : ColliderHandle → Type 0 = λ k. Names cs k h in
-      Decides-like {P = All P ks} {Q = (k : ColliderHandle) → Has ks k → Names cs k h} (owns_all cs h ks)
+      Decides-like {P = AllByRecursion P ks} {Q = (k : ColliderHandle) → Has ks k → Names cs k h} (owns_all cs h ks)
       (λ a k m. all-has P ks k a m)
       (λ f. All-weaker (Has ks) P f ks (all_has_itself ks))
       (Decides-by_and (owns cs h) P (owns_all cs h) owns_decides refl (λ _ _. refl) ks)

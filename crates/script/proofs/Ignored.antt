@@ -1,6 +1,6 @@
 -- Comments and blanks change nothing. Assumes nothing.
 use Rattle.std.proofs.Common.{◌≡◌, ℕ, suc, Bool, true, false, cond, eqb, ◌⊎◌, List, [], ◌∷◌, ◌++◌, take, sym, refl, ap, ◌∙◌, inl, inr, append_assoc, append-nil, arith, eqb-true}
-use Rattle.std.specs.List.{AllByRecursion as All}
+use Rattle.std.specs.List.{AllByRecursion}
 use Rattle.std.proofs.lemmas.Bool.{ne_eqb, or_cases}
 use Rattle.texts.specs.declared.cuts.Until.TheVariants.{Mark}
 use Rattle.texts.specs.Cuts.{is_blank, reach_of, lengthened}
@@ -36,7 +36,7 @@ kept b bs h = ap (λ (t : Bool). take (cond t 0 (suc (reach_of (Mark 35) bs))) (
 one_before : (b : ℕ) (bs : List ℕ) → is_blank b ≡ true → words_of (b ∷ bs) ≡ words_of bs
 one_before b bs h = ap (λ (t : Bool). cond t (words_of bs) (before b bs (words_of bs))) h
 
-all_before : (bs line : List ℕ) → All (λ b. is_blank b ≡ true) bs → words_of (uncommented (bs ++ line)) ≡ words_of (uncommented line)
+all_before : (bs line : List ℕ) → AllByRecursion (λ b. is_blank b ≡ true) bs → words_of (uncommented (bs ++ line)) ≡ words_of (uncommented line)
 all_before [] line h = refl
 all_before (b ∷ bs) line h = ap words_of (kept b (bs ++ line) h.0) ∙ one_before b (uncommented (bs ++ line)) h.0 ∙ all_before bs line h.1
 
@@ -68,7 +68,7 @@ words_after bs c h =
       | inr e ↦ ap words_of e ∙ one_after (uncommented bs) c h
     ]
 
-all_after : (line bs : List ℕ) → All (λ b. is_blank b ≡ true) bs → words_of (uncommented (line ++ bs)) ≡ words_of (uncommented line)
+all_after : (line bs : List ℕ) → AllByRecursion (λ b. is_blank b ≡ true) bs → words_of (uncommented (line ++ bs)) ≡ words_of (uncommented line)
 all_after line [] h = ap (λ (l : List ℕ). words_of (uncommented l)) (append-nil line)
 all_after line (b ∷ bs) h =
     ap (λ (l : List ℕ). words_of (uncommented l)) (sym (append_assoc line (b ∷ []) bs))

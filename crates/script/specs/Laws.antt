@@ -1,7 +1,7 @@
 -- The laws of lines that are read, each stated once. A function of `src/laws.rt` ensures each. Assumes nothing.
 use Rattle.std.specs.Prelude.{◌≡◌, ℕ, ◌<◌, ◌≤◌, true, List, [], ◌∷◌, ◌++◌, length, Some, None, Ok, Err, codes, from_bits, slice_index_or, Float}
 use Rattle.std.specs.Float.{binary32}
-use Rattle.std.specs.List.{AllByRecursion as All}
+use Rattle.std.specs.List.{AllByRecursion}
 use Rattle.geometry.specs.Vectors.{vector}
 use Rattle.geometry.specs.Poses.{placed}
 use Rattle.outcomes.specs.declared.cast_outcome.CastOutcome.TheVariants as casts
@@ -17,8 +17,8 @@ use Rattle.script.specs.Lines.{command_of}
 -- What stands after a comment sign does not matter, nor do blanks before a line or after it.
 pub record Ignored : Type 0 where
   pub comment : (line text : List ℕ) → command_of (line ++ 35 ∷ text) ≡ command_of line
-  pub blanks_before : (bs line : List ℕ) → All (λ b. is_blank b ≡ true) bs → command_of (bs ++ line) ≡ command_of line
-  pub blanks_after : (line bs : List ℕ) → All (λ b. is_blank b ≡ true) bs → command_of (line ++ bs) ≡ command_of line
+  pub blanks_before : (bs line : List ℕ) → AllByRecursion (λ b. is_blank b ≡ true) bs → command_of (bs ++ line) ≡ command_of line
+  pub blanks_after : (line bs : List ℕ) → AllByRecursion (λ b. is_blank b ≡ true) bs → command_of (line ++ bs) ≡ command_of line
 
 -- The children of a Compound are its words, in their order, 16 at most; what stands past them is blank.
 pub record Kept (ws : List (List ℕ)) (cs : Children) : Type 0 where

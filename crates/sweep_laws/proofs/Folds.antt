@@ -1,7 +1,7 @@
 -- The sweep of a body goes through its admitted pairs, one after the other. Assumes nothing.
 use Rattle.std.proofs.Common.{◌≡◌, ℕ, Bool, true, false, cond, not, ◌&&◌, T, ltb, List, [], ◌∷◌, ◌++◌, length, Some, None, Option, unwrap_or, sym, refl, ap, ◌∙◌, subst}
 use lib.Ieee.{Float, lt}
-use Rattle.std.specs.List.{AllByRecursion as All}
+use Rattle.std.specs.List.{AllByRecursion}
 use Rattle.std.proofs.ByRecursion.{All-append}
 use Rattle.std.proofs.lemmas.List.{take_all}
 use Rattle.std.proofs.lemmas.Bool.{cond_both, or_left}
@@ -90,7 +90,7 @@ module _ (impact : Pair → Option Float) (m : PseudoHitMode) where
       by m false o = solid m (accepted lt o s.1.fraction)
 
 -- a pseudo pair changes nothing where such pairs are ignored
-pub ignored : (impact : Pair → Option Float) (s : Swept) (xs : List Pair) → All (λ x. pseudo x ≡ true) xs → pairs_met impact Ignore s xs ≡ s
+pub ignored : (impact : Pair → Option Float) (s : Swept) (xs : List Pair) → AllByRecursion (λ x. pseudo x ≡ true) xs → pairs_met impact Ignore s xs ≡ s
 ignored impact s [] a = refl
 ignored impact s (x ∷ xs) a =
     ap (λ (z : Swept). pairs_met impact Ignore z xs) (by (pseudo x) a.0 (accepted (test_for (pseudo x)) (impact x) s.1.fraction)) ∙ ignored impact s xs a.1
@@ -178,7 +178,7 @@ module _ (e : Env) (m : PseudoHitMode) (f : Fast) (q : FastShape) (impact : Pair
 
 -- a collider takes part, or it has no pairs, or they are all pseudo and ignored
 takes_met : (m : PseudoHitMode) (c : Collider) (impact : Pair → Option Float) (s z : Swept) (xs : List Pair) → z ≡ pairs_met impact m s xs
-    → (c.sensor ≡ true → All (λ x. pseudo x ≡ true) xs) → cond (takes_part m c) z s ≡ pairs_met impact m s (cond c.enabled xs [])
+    → (c.sensor ≡ true → AllByRecursion (λ x. pseudo x ≡ true) xs) → cond (takes_part m c) z s ≡ pairs_met impact m s (cond c.enabled xs [])
 takes_met (Record n) c impact s z xs w a = by c.enabled
   where
     by : (t : Bool) → cond t z s ≡ pairs_met impact (Record n) s (cond t xs [])
@@ -186,7 +186,7 @@ takes_met (Record n) c impact s z xs w a = by c.enabled
     by false = refl
 takes_met Ignore c impact s z xs w a = by c.enabled c.sensor a
   where
-    by : (t u : Bool) → (u ≡ true → All (λ x. pseudo x ≡ true) xs) → cond (t && not u) z s ≡ pairs_met impact Ignore s (cond t xs [])
+    by : (t u : Bool) → (u ≡ true → AllByRecursion (λ x. pseudo x ≡ true) xs) → cond (t && not u) z s ≡ pairs_met impact Ignore s (cond t xs [])
     by true true a = sym (ignored impact s xs (a refl))
     by true false a = w
     by false u a = refl
@@ -194,21 +194,21 @@ takes_met Ignore c impact s z xs w a = by c.enabled c.sensor a
 -- all pairs of a sensor are pseudo
 module _ (e : Env) (f : Fast) (sensor : f.collider.sensor ≡ true) where
   -- of one candidate
-  one_pseudo : (k : ColliderHandle) (o : Option Collider) → All (λ x. pseudo x ≡ true) (pair_in e f k o)
+  one_pseudo : (k : ColliderHandle) (o : Option Collider) → AllByRecursion (λ x. pseudo x ≡ true) (pair_in e f k o)
   one_pseudo k None = tt
   one_pseudo k (Some c) =
-      cond_both (admits e.keeps f k c (parent_body e.bodies c.parent)) (pair_of f k c ∷ []) [] (All (λ x. pseudo x ≡ true))
+      cond_both (admits e.keeps f k c (parent_body e.bodies c.parent)) (pair_of f k c ∷ []) [] (AllByRecursion (λ x. pseudo x ≡ true))
       (λ a. (or_left f.collider.sensor _ sensor, tt)) (λ a. tt)
 
   -- of a report
-  sensor_pseudo : (ks : List ColliderHandle) → All (λ x. pseudo x ≡ true) (pairs_of e f ks)
+  sensor_pseudo : (ks : List ColliderHandle) → AllByRecursion (λ x. pseudo x ≡ true) (pairs_of e f ks)
   sensor_pseudo [] = tt
   sensor_pseudo (k ∷ ks) =
       All-append (λ x. pseudo x ≡ true) (pair_in e f k (found e.colliders k.0)) (pairs_of e f ks)
       (one_pseudo k (found e.colliders k.0)) (sensor_pseudo ks)
 
   -- of a shape
-  shape_pseudo : (p : ColliderParent) (q : Option FastShape) → All (λ x. pseudo x ≡ true) (pairs_if e f p q)
+  shape_pseudo : (p : ColliderParent) (q : Option FastShape) → AllByRecursion (λ x. pseudo x ≡ true) (pairs_if e f p q)
   shape_pseudo p None = tt
   shape_pseudo p (Some q) = sensor_pseudo (report_of e f (way_of e f p.relative))
 

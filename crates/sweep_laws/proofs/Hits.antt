@@ -1,7 +1,7 @@
 -- The hits that a sweep notes before its fraction are the pseudo impacts before it. Assumes nothing.
 use Rattle.std.proofs.Common.{◌≡◌, ℕ, ◌+◌, ◌-◌, ◌<◌, ◌≤◌, Bool, true, false, cond, ◌&&◌, T, ltb, List, [], ◌∷◌, ◌++◌, length, take, drop, Some, None, Option, sym, refl, ap, ◌∙◌, subst, arith, T_not}
 use lib.Ieee.{Float, lt, le}
-use Rattle.std.specs.List.{ContainsAt as Has, AllByRecursion as All}
+use Rattle.std.specs.List.{ContainsAt as Has, AllByRecursion}
 use Rattle.std.specs.Bool.{passes, fails}
 use Rattle.std.proofs.ByRecursion.{All-append, all-has}
 use Rattle.std.proofs.lemmas.List.{append-nil, append_assoc, length-append, length-set, length-take-le, take-take, take_at, take_more_set, drop_at, drop-take}
@@ -68,7 +68,7 @@ record Adds (impact : Pair → Option Float) (n : ℕ) (s : Swept) (xs : List Pa
   count : z.1.hits ≡ s.1.hits + length news
   few : length news ≤ length xs
   long : length z.0 ≡ length s.0
-  numbered : All (λ x. x.result ≡ n) news
+  numbered : AllByRecursion (λ x. x.result ≡ n) news
   mark : T (is_fraction z.1.fraction)
   low : T (le z.1.fraction s.1.fraction)
   noted_before : (f : Float) → T (is_fraction f) → T (le f z.1.fraction) → before f news ≡ crossed impact n f xs

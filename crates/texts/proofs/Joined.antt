@@ -1,7 +1,7 @@
 -- Words and parts that are joined come apart again. Assumes nothing.
 use Rattle.std.proofs.Common.{◌≡◌, ℕ, Bool, false, cond, List, [], ◌∷◌, ◌++◌, Ok, Result, refl, ap, ◌∙◌, arith}
 use lib.Ieee.{Float}
-use Rattle.std.specs.List.{AllByRecursion as All}
+use Rattle.std.specs.List.{AllByRecursion}
 use Rattle.std.proofs.lemmas.Bool.{eq-eqb}
 use Rattle.geometry.specs.Vectors.{vector}
 use Rattle.texts.specs.declared.trouble.Trouble.{Trouble}
@@ -35,11 +35,11 @@ first (b ∷ (c ∷ cs)) rest h =
     ∙ longer b c (cs ++ 32 ∷ rest) (words_of (c ∷ (cs ++ 32 ∷ rest))) h.1.1.0
     ∙ ap (lengthened b) (first (c ∷ cs) rest (omega arith, h.1.1))
 
-words_from : (w : List ℕ) (ws : List (List ℕ)) → All IsWord (w ∷ ws) → words_of (joined_from 32 w ws) ≡ w ∷ ws
+words_from : (w : List ℕ) (ws : List (List ℕ)) → AllByRecursion IsWord (w ∷ ws) → words_of (joined_from 32 w ws) ≡ w ∷ ws
 words_from w [] h = last w h.0
 words_from w (v ∷ vs) h = first w (joined_from 32 v vs) h.0 ∙ ap (λ (l : List (List ℕ)). w ∷ l) (words_from v vs h.1)
 
-words : (ws : List (List ℕ)) → All IsWord ws → words_of (joined_by 32 ws) ≡ ws
+words : (ws : List (List ℕ)) → AllByRecursion IsWord ws → words_of (joined_by 32 ws) ≡ ws
 words [] h = refl
 words (w ∷ ws) h = words_from w ws h
 
@@ -56,7 +56,7 @@ first_part m (b ∷ bs) rest h =
     ap (λ (t : Bool). cond t ([] ∷ parts_of m (bs ++ m ∷ rest)) (lengthened b (parts_of m (bs ++ m ∷ rest)))) h.0
     ∙ ap (lengthened b) (first_part m bs rest h.1)
 
-parts : (m : ℕ) (p : List ℕ) (ps : List (List ℕ)) → All (Lacks m) (p ∷ ps) → parts_of m (joined_by m (p ∷ ps)) ≡ p ∷ ps
+parts : (m : ℕ) (p : List ℕ) (ps : List (List ℕ)) → AllByRecursion (Lacks m) (p ∷ ps) → parts_of m (joined_by m (p ∷ ps)) ≡ p ∷ ps
 parts m p [] h = last_part m p h.0
 parts m p (q ∷ qs) h = first_part m p (joined_from m q qs) h.0 ∙ ap (λ (l : List (List ℕ)). p ∷ l) (parts m q qs h.1)
 

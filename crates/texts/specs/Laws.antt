@@ -3,7 +3,7 @@ use Rattle.std.specs.Prelude.{◌≡◌, ℕ, ◌^◌, ◌<◌, ◌≤◌, false
 use Rattle.std.specs.Float.{binary32}
 use Rattle.std.specs.Float.Ieee.{of_int, round}
 use Rattle.std.specs.Float.Ieee.Exact.{HasValue}
-use Rattle.std.specs.List.{AllByRecursion as All}
+use Rattle.std.specs.List.{AllByRecursion}
 use Rattle.geometry.specs.Vectors.{vector}
 use Rattle.geometry.specs.Poses.{placed}
 use Rattle.texts.specs.declared.trouble.Trouble.TheVariants.{NotANumber, TooManyDigits}
@@ -23,10 +23,10 @@ joined_by m (p ∷ ps) = joined_from m p ps
 
 -- a word has a byte and no blank, and a part has no mark
 abbrev pub IsWord : List ℕ → Type 0
-IsWord w = (0 < length w) × All (λ b. is_blank b ≡ false) w
+IsWord w = (0 < length w) × AllByRecursion (λ b. is_blank b ≡ false) w
 
 abbrev pub Lacks : ℕ → List ℕ → Type 0
-Lacks m p = All (λ b. (b == m) ≡ false) p
+Lacks m p = AllByRecursion (λ b. (b == m) ≡ false) p
 
 -- a part that is a number
 abbrev pub Says : List ℕ → Float → Type 0
@@ -34,8 +34,8 @@ Says p x = Lacks 44 p × (number_of p ≡ Ok x)
 
 -- Words joined by spaces come apart again, and so do parts joined by a mark. A place is three numbers joined by commas, and a pose three or seven.
 pub record Joins : Type 0 where
-  pub words : (ws : List (List ℕ)) → All IsWord ws → words_of (joined_by 32 ws) ≡ ws
-  pub parts : (m : ℕ) (p : List ℕ) (ps : List (List ℕ)) → All (Lacks m) (p ∷ ps) → parts_of m (joined_by m (p ∷ ps)) ≡ p ∷ ps
+  pub words : (ws : List (List ℕ)) → AllByRecursion IsWord ws → words_of (joined_by 32 ws) ≡ ws
+  pub parts : (m : ℕ) (p : List ℕ) (ps : List (List ℕ)) → AllByRecursion (Lacks m) (p ∷ ps) → parts_of m (joined_by m (p ∷ ps)) ≡ p ∷ ps
   pub place : (a b c : List ℕ) (x y z : Float) → Says a x → Says b y → Says c z → place_of (joined_by 44 (a ∷ b ∷ c ∷ [])) ≡ Ok (vector x y z)
   pub pose_of_three : (a b c : List ℕ) (x y z : Float) → Says a x → Says b y → Says c z → pose_of (joined_by 44 (a ∷ b ∷ c ∷ [])) ≡ Ok (placed (vector x y z))
   pub pose_of_seven : (a b c d e f g : List ℕ) (x y z i j k w : Float) → Says a x → Says b y → Says c z → Says d i → Says e j → Says f k → Says g w

@@ -10,6 +10,6 @@ returns c =
     let h = (table_meaning c.args.self.now.table).held in
     let cs = downward (length h) h c.args.aabb c.args.p in
     let out = c.args.out.now in
-    let w = c.offer-downward.ensures ∙ ap (λ (k : Held). offered out 0 (downward (length k) k c.args.aabb c.args.p)) c.held.ensures.value in
+    let w = c.offer_downward.ensures ∙ ap (λ (k : Held). offered out 0 (downward (length k) k c.args.aabb c.args.p)) c.held.ensures.value in
     let r = subst (Reported out cs) (sym w) (reported out cs) in
     record { count = r.count; front = r.front; rest = r.rest }

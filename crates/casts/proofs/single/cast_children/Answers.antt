@@ -10,7 +10,7 @@ loop-child-preserved g c =
     let f = cast_children (g.H.Host.answers c.args.host.now) c.args.flight c.args.target in
     let cs = c.args.children.now in
     let i = c.loop-child.child-index in
-    ap (λ (r : Report). f r (drop (i + 1) cs)) c.cast-child.ensures ∙ turned (f c.loop-child.report) cs i blank c.loop-child-test.true c.loop-child.invariant
+    ap (λ (r : Report). f r (drop (i + 1) cs)) c.cast_child.ensures ∙ turned (f c.loop-child.report) cs i blank c.loop-child-test.true c.loop-child.invariant
 
 pub returns : goal.returns
 returns g c =

@@ -16,7 +16,7 @@ loop-handle-preserved g c =
     let i = c.loop-handle.handle-index in
     let h : RigidBodyHandle = get_or hs i blank_result.handle in
     ap (λ (x : Float). f x (drop (i + 1) hs))
-    (c.sweep-free-least.ensures
+    (c.sweep_free-least.ensures
     ∙ ap (λ (n : ℕ). soonered_by e n h c.loop-handle.least (found e.bodies h.0)) c.loop-handle.auto.candidates)
     ∙ turned (f c.loop-handle.least) hs i blank_result.handle c.loop-handle-test.true c.loop-handle.invariant
 

@@ -10,6 +10,6 @@ returns g c =
     let e = env_of (g.H.Host.answers a.host.now) (g.D.Finder.listed a.finder.now) (g.F.Filter.keeps a.filter.now) a.bodies.now a.colliders.now a.step in
     let log : Log = (a.results.now, a.hits.now, a.start) in
     record {
-      grown = λ w. subst (Grown log) (sym c.sweep-stage.ensures) (stage_grown e (length a.candidates.now) a.bullets log a.active.now w);
-      log = c.sweep-stage.ensures;
+      grown = λ w. subst (Grown log) (sym c.sweep_stage.ensures) (stage_grown e (length a.candidates.now) a.bullets log a.active.now w);
+      log = c.sweep_stage.ensures;
     }

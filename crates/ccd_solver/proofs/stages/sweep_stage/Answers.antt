@@ -14,7 +14,7 @@ loop-handle-preserved g c =
     let i = c.loop-handle.handle-index in
     let log : Log = (c.loop-handle.results, c.loop-handle.hits, c.loop-handle.tally) in
     ap (λ (l : Log). f l (drop (i + 1) hs))
-    (c.sweep-active-tally.ensures
+    (c.sweep_active-tally.ensures
     ∙ ap (λ (n : ℕ). active_swept e n b log (get_or hs i blank_result.handle)) c.loop-handle.auto.candidates)
     ∙ turned (f log) hs i blank_result.handle c.loop-handle-test.true c.loop-handle.invariant
 

@@ -10,7 +10,7 @@ loop-hit-preserved g c =
     let f = emitted (g.H.Host.answers c.args.host.now) c.args.bodies.now c.args.colliders.now c.args.results.now in
     let xs = c.args.hits.now in
     let i = c.loop-hit.hit-index in
-    ap (λ (s : List CollisionEvent × ℕ). f s (drop (i + 1) xs)) c.emit-hit-count.ensures
+    ap (λ (s : List CollisionEvent × ℕ). f s (drop (i + 1) xs)) c.emit_hit-count.ensures
     ∙ turned (f (c.loop-hit.events, c.loop-hit.count)) xs i blank_hit c.loop-hit-test.true c.loop-hit.invariant
 
 pub returns : goal.returns

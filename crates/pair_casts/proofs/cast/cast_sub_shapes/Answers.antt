@@ -11,7 +11,7 @@ loop-sub-preserved g c =
     let f = sought (sub_shape_taken (g.H.Host.answers c.args.host.now) c.args.step c.args.target c.args.kind) c.args.«cap» in
     let qs = c.args.subs.now in
     let i = c.loop-sub.sub-index in
-    ap (λ (b : Option Float). f b (drop (i + 1) qs)) c.cast-next-best.ensures ∙ turned (f c.loop-sub.best) qs i blank_sub c.loop-sub-test.true c.loop-sub.invariant
+    ap (λ (b : Option Float). f b (drop (i + 1) qs)) c.cast_next-best.ensures ∙ turned (f c.loop-sub.best) qs i blank_sub c.loop-sub-test.true c.loop-sub.invariant
 
 pub returns : goal.returns
 returns g c =

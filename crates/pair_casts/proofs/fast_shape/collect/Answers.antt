@@ -10,7 +10,7 @@ loop-child-preserved g c =
     let f = collected (g.H.Host.answers c.args.host.now) c.args.sweep in
     let cs = c.args.children.now in
     let i = c.loop-child.child-index in
-    ap (λ (t : SubShapes). f t (drop (i + 1) cs)) c.collect-child.ensures ∙ turned (f c.loop-child.subs) cs i blank c.loop-child-test.true c.loop-child.invariant
+    ap (λ (t : SubShapes). f t (drop (i + 1) cs)) c.collect_child.ensures ∙ turned (f c.loop-child.subs) cs i blank c.loop-child-test.true c.loop-child.invariant
 
 pub returns : goal.returns
 returns g c =

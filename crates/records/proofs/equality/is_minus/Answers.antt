@@ -10,5 +10,5 @@ unsigned nan h = refl
 unsigned (inf s) h = absurd (true≢false (sym h))
 unsigned (fin s m e) h = absurd (true≢false (sym h))
 
-pub returns-else-not-is-nan : goal.returns-else-not-is-nan
-returns-else-not-is-nan c = rw c.if-not-is-nan.false (unsigned c.args.x (sym c.is-nan.ensures.value ∙ c.if-not-is-nan.false))
+pub returns-else-not-is_nan : goal.returns-else-not-is_nan
+returns-else-not-is_nan c = rw c.if-not-is_nan.false (unsigned c.args.x (sym c.is_nan.ensures.value ∙ c.if-not-is_nan.false))

@@ -7,4 +7,4 @@ pub returns : goal.returns
 returns c =
     let A : T (fits binary32 c.args.a) = search rules in
     let B : T (fits binary32 c.args.b) = search rules in
-    c.tests-same.ensures ∙ tested_same_lem c.args.a c.args.b A B
+    c.tests_same.ensures ∙ tested_same_lem c.args.a c.args.b A B

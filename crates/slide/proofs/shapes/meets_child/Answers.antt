@@ -10,7 +10,7 @@ returns-then-intersects c =
     let f = meets_child c.args.shapes.now c.args.pose c.args.aabb in
     let cs = c.args.children.now in
     let i = c.loop-child.child-index in
-    ap (λ (b : Bool). cond b true (f (drop (i + 1) cs))) (c.if-intersects.ensures ∙ ap (meet_of c.args.aabb) c.child-box.ensures)
+    ap (λ (b : Bool). cond b true (f (drop (i + 1) cs))) (c.if-intersects.ensures ∙ ap (meet_of c.args.aabb) c.child_box.ensures)
     ∙ turned f cs i blank c.loop-child-test.true c.loop-child.invariant
 
 pub loop-child-preserved : goal.loop-child-preserved
@@ -18,7 +18,7 @@ loop-child-preserved c =
     let f = meets_child c.args.shapes.now c.args.pose c.args.aabb in
     let cs = c.args.children.now in
     let i = c.loop-child.child-index in
-    ap (λ (b : Bool). cond b true (f (drop (i + 1) cs))) (c.if-intersects.ensures ∙ ap (meet_of c.args.aabb) c.child-box.ensures)
+    ap (λ (b : Bool). cond b true (f (drop (i + 1) cs))) (c.if-intersects.ensures ∙ ap (meet_of c.args.aabb) c.child_box.ensures)
     ∙ turned f cs i blank c.loop-child-test.true c.loop-child.invariant
 
 pub returns : goal.returns

@@ -11,7 +11,7 @@ loop-child-preserved c =
     let cs = c.args.children.now in
     let p = c.args.pose in
     let i = c.loop-child.child-index in
-    ap (λ (u : Aabb). union_of ss p (Some u) (drop (i + 1) cs)) (c.join.ensures ∙ ap (joined_with c.loop-child.union) c.child-box.ensures)
+    ap (λ (u : Aabb). union_of ss p (Some u) (drop (i + 1) cs)) (c.join.ensures ∙ ap (joined_with c.loop-child.union) c.child_box.ensures)
     ∙ turned (union_of ss p c.loop-child.union) cs i blank c.loop-child-test.true c.loop-child.invariant
 
 pub returns : goal.returns

@@ -11,7 +11,7 @@ loop-handle-preserved g c =
     let f = candidates_swept (hall_of g.H.Host g.D.Finder g.F.Filter c.args.hall.now) c.args.mode (fast_of c.args.fast.now) c.args.shape.now in
     let ks = c.args.candidates.now in
     let i = c.loop-handle.handle-index in
-    ap (λ (s : Swept). f s (drop (i + 1) ks)) c.handle-candidate-reached.ensures
+    ap (λ (s : Swept). f s (drop (i + 1) ks)) c.handle_candidate-reached.ensures
     ∙ turned (f (c.loop-handle.hits, c.loop-handle.reached)) ks i blank_handle c.loop-handle-test.true c.loop-handle.invariant
 
 pub returns : goal.returns

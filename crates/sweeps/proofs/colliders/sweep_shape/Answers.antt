@@ -14,10 +14,10 @@ returns g c =
     let room = length c.args.candidates.now in
     let listing : Aabb → List ColliderHandle = λ q. e.listed q e.step.prediction in
     let whole : c.report-count.result - 0 ≡ c.report-count.result = omega arith in
-    let front : take (c.report-count.result - 0) c.report-count.new.out ≡ take room (listing c.swept-aabb-aabb.result) =
+    let front : take (c.report-count.result - 0) c.report-count.new.out ≡ take room (listing c.swept_aabb-aabb.result) =
     ap (λ (n : ℕ). take n c.report-count.new.out) whole
     ∙ (c.report-count.ensures.front
-    ∙ (ap (λ (n : ℕ). take n (listing c.swept-aabb-aabb.result)) c.report-count.ensures.count ∙ take_min room (listing c.swept-aabb-aabb.result))) in
-    c.handle-candidates.ensures
+    ∙ (ap (λ (n : ℕ). take n (listing c.swept_aabb-aabb.result)) c.report-count.ensures.count ∙ take_min room (listing c.swept_aabb-aabb.result))) in
+    c.handle_candidates.ensures
     ∙ ap (candidates_swept e c.args.mode (fast_of c.args.fast.now) c.args.shape.now (c.args.hits.now, c.args.reached))
-    (front ∙ ap (λ (q : Aabb). take room (listing q)) c.swept-aabb-aabb.ensures)
+    (front ∙ ap (λ (q : Aabb). take room (listing q)) c.swept_aabb-aabb.ensures)

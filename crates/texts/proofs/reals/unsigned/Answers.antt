@@ -19,10 +19,10 @@ read us tail fs d q t f e h =
     ∙ ap (λ (l : List ℕ). quotient_of (value_of 10 0 (us ++ l)) (length l)) f
     ∙ ap (λ (b : Bool). cond b (quotient_of (value_of 10 0 (us ++ drop 1 tail)) (length (drop 1 tail))) (Err NotANumber)) t
 
-pub returns-then-is-decimal : goal.returns-then-is-decimal
-returns-then-is-decimal c =
+pub returns-then-is_decimal : goal.returns-then-is_decimal
+returns-then-is_decimal c =
     let us = c.front-units.result.now in
     let tail = c.past-tail.result.now in
-    read us tail c.skip-fraction.result.now c.digits.result c.quotient.result c.if-is-decimal.ensures c.skip-fraction.ensures c.digits.ensures c.quotient.ensures
+    read us tail c.skip-fraction.result.now c.digits.result c.quotient.result c.if-is_decimal.ensures c.skip-fraction.ensures c.digits.ensures c.quotient.ensures
     ∙ ap (λ (l : List ℕ). unsigned_from l tail) c.front-units.ensures
     ∙ ap (unsigned_from (front_of (Mark 46) c.args.text.now)) c.past-tail.ensures

@@ -8,4 +8,4 @@ pub returns : goal.returns
 returns c =
     let xs = c.args.self.now.pairs.now in
     let e : c.counted-count.result - 0 ≡ min (length xs) 64 = omega (arith, c.counted-count.ensures) in
-    ap not (c.is-barred.ensures ∙ ap (λ (l : List BarredPair). barred_in l c.args.first c.args.second) (ap (λ (n : ℕ). take n xs) e ∙ take_min 64 xs))
+    ap not (c.is_barred.ensures ∙ ap (λ (l : List BarredPair). barred_in l c.args.first c.args.second) (ap (λ (n : ℕ). take n xs) e ∙ take_min 64 xs))

@@ -6,8 +6,8 @@ use Rattle.finders.specs.Finders.{Held, Meaning, empty, held_count}
 use Rattle.finders.proofs.Slots.{count_none, table_length}
 use Rattle.finders.proofs.slot_table.SlotTable.clear.Goals as goal
 
-pub invariant-of-self : goal.invariant-of-self
-invariant-of-self c =
+pub invariant_of-self : goal.invariant_of-self
+invariant_of-self c =
     let t = c.args.self.now in
     (length-replicate {A = Option Entry} 1024 None, (t.inside, (sym (ap held_count (take-replicate t.slots 1024 None t.inside) ∙ count_none t.slots), (omega arith, tt))))
 

@@ -4,8 +4,8 @@ use Rattle.finders.specs.Finders.{Meaning, empty, held_count}
 use Rattle.finders.proofs.Slots.{count_none}
 use Rattle.finders.proofs.slot_table.SlotTable.new.Goals as goal
 
-pub invariant-of-result : goal.invariant-of-result
-invariant-of-result c =
+pub invariant_of-result : goal.invariant_of-result
+invariant_of-result c =
     let inside : c.min.result ≤ 1024 = omega (arith, c.min.ensures) in
     (refl, (inside, (sym (ap held_count (take-replicate c.min.result 1024 None inside) ∙ count_none c.min.result), (omega arith, tt))))
 

@@ -3,8 +3,8 @@ use Rattle.finders.specs.Finders.{Held, Meaning, held_count}
 use Rattle.finders.proofs.Slots.{take_set}
 use Rattle.finders.proofs.slot_table.SlotTable.put.Goals as goal
 
-pub invariant-of-self : goal.invariant-of-self
-invariant-of-self c =
+pub invariant_of-self : goal.invariant_of-self
+invariant_of-self c =
     let t = c.args.self.now in
     (length-set t.entries c.args.slot c.args.entry ∙ t.whole, (t.inside, (c.requires.count ∙ ap held_count (sym (take_set t.slots t.entries c.args.slot c.args.entry)), (c.requires.limit, tt))))
 

@@ -6,22 +6,22 @@ use Rattle.finders.proofs.slot_table.SlotTable.remove.Goals as goal
 pub returns-then-slot-self : goal.returns-then-slot-self
 returns-then-slot-self c = sym (cond-false _ _ _ (box_past c.args.self.now c.args.collider c.if-slot-self.true))
 
-pub overflow-sub-self : goal.overflow-sub-self
-overflow-sub-self c =
-    let k = counts_gone c.args.self.now c.args.collider c.if-slot-self.false (sym c.is-of.ensures ∙ c.if-is-of.true) in
+pub overflow_sub-self : goal.overflow_sub-self
+overflow_sub-self c =
+    let k = counts_gone c.args.self.now c.args.collider c.if-slot-self.false (sym c.is_of.ensures ∙ c.if-is_of.true) in
     omega arith
 
 pub put-requires : goal.put-requires
 put-requires c =
     let t = c.args.self.now in
-    let k = counts_gone t c.args.collider c.if-slot-self.false (sym c.is-of.ensures ∙ c.if-is-of.true) in
+    let k = counts_gone t c.args.collider c.if-slot-self.false (sym c.is_of.ensures ∙ c.if-is_of.true) in
     record { slot = c.if-slot-self.false; count = omega arith; limit = omega (arith, t.limited) }
 
-pub returns-then-is-of : goal.returns-then-is-of
-returns-then-is-of c =
+pub returns-then-is_of : goal.returns-then-is_of
+returns-then-is_of c =
     c.put.ensures
-    ∙ sym (cond-true _ _ _ (sym (box_is c.args.self.now c.args.collider c.if-slot-self.false) ∙ sym c.is-of.ensures ∙ c.if-is-of.true))
+    ∙ sym (cond-true _ _ _ (sym (box_is c.args.self.now c.args.collider c.if-slot-self.false) ∙ sym c.is_of.ensures ∙ c.if-is_of.true))
 
-pub returns-else-is-of : goal.returns-else-is-of
-returns-else-is-of c =
-    sym (cond-false _ _ _ (sym (box_is c.args.self.now c.args.collider c.if-slot-self.false) ∙ sym c.is-of.ensures ∙ c.if-is-of.false))
+pub returns-else-is_of : goal.returns-else-is_of
+returns-else-is_of c =
+    sym (cond-false _ _ _ (sym (box_is c.args.self.now c.args.collider c.if-slot-self.false) ∙ sym c.is_of.ensures ∙ c.if-is_of.false))

@@ -19,13 +19,13 @@ turn ss all l s p at v b r i z e f g =
     let box = f ∙ ap (λ (q : Pose). child_box ss q (get_or l i blank)) (e ∙ ap placed z) in
     ap (λ (x : Bool). cond x true (any_meets ss all s p (drop (i + 1) l))) (g ∙ ap (λ (x : Aabb). meets_shape ss all x s p) box)
 
-pub returns-then-meets-shape : goal.returns-then-meets-shape
-returns-then-meets-shape c =
+pub returns-then-meets_shape : goal.returns-then-meets_shape
+returns-then-meets_shape c =
     let ss = c.args.self.now.shapes.now in
     let all = c.args.self.now.children.now in
     let l = c.args.children.now in
     let i = c.loop-child.child-index in
-    turn ss all l c.args.shape c.args.pose _ _ _ true i c.zero.ensures c.at.ensures c.child-box-aabb.ensures c.if-meets-shape.ensures
+    turn ss all l c.args.shape c.args.pose _ _ _ true i c.zero.ensures c.at.ensures c.child_box-aabb.ensures c.if-meets_shape.ensures
     ∙ turned (any_meets ss all c.args.shape c.args.pose) l i blank c.loop-child-test.true c.loop-child.invariant
 
 pub loop-child-preserved : goal.loop-child-preserved
@@ -34,7 +34,7 @@ loop-child-preserved c =
     let all = c.args.self.now.children.now in
     let l = c.args.children.now in
     let i = c.loop-child.child-index in
-    turn ss all l c.args.shape c.args.pose _ _ _ _ i c.zero.ensures c.at.ensures c.child-box-aabb.ensures c.if-meets-shape.ensures
+    turn ss all l c.args.shape c.args.pose _ _ _ _ i c.zero.ensures c.at.ensures c.child_box-aabb.ensures c.if-meets_shape.ensures
     ∙ turned (any_meets ss all c.args.shape c.args.pose) l i blank c.loop-child-test.true c.loop-child.invariant
 
 pub returns : goal.returns
