@@ -18,7 +18,7 @@ returns-then-is_empty c =
 
 pub returns-in_err-children : goal.returns-in_err-children
 returns-in_err-children c =
-    let p = err_from_is_err_and c.from-residual.result c.from-residual.ensures.1 in
+    let p = err_from_is_err_and c.from_residual.result c.from_residual.ensures.1 in
     let words = c.past-words.result.now in
     rw (p.1, p.2)
     (ap (λ (q : Result Children Trouble). and_then q (λ ds. children_of ds (words_of (past_of Blank words)))) (sym c.in_err-children.was)

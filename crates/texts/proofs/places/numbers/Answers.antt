@@ -11,7 +11,7 @@ use Rattle.texts.proofs.places.numbers.Goals as goal
 
 pub returns-in_err-next : goal.returns-in_err-next
 returns-in_err-next c =
-    let p = err_from_is_err_and c.from-residual.result c.from-residual.ensures.1 in
+    let p = err_from_is_err_and c.from_residual.result c.from_residual.ensures.1 in
     let e = sym (ap number_of c.front.ensures) ∙ sym c.number.ensures ∙ c.in_err-next.was in
     rw (p.1, p.2) (bad_part c.loop-next.numbers c.loop-next.rest.now c.loop-next.invariant c.in_err-next.field-0.0 e)
 

@@ -7,4 +7,4 @@ pub invariant_of-self : goal.invariant_of-self
 invariant_of-self c =
     let d = c.args.self.now in
     let k = clear_keeps (table_meaning d.table) _ c.clear.ensures in
-    (k.1 ∙ d.exact ∙ sym k.0, tt)
+    record { exact = k.1 ∙ d.exact ∙ sym k.0 }

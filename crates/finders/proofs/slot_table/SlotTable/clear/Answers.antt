@@ -9,7 +9,7 @@ use Rattle.finders.proofs.slot_table.SlotTable.clear.Goals as goal
 pub invariant_of-self : goal.invariant_of-self
 invariant_of-self c =
     let t = c.args.self.now in
-    (length-replicate {A = Option Entry} 1024 None, (t.inside, (sym (ap held_count (take-replicate t.slots 1024 None t.inside) ∙ count_none t.slots), (omega arith, tt))))
+    record { whole = length-replicate {A = Option Entry} 1024 None; inside = t.inside; counted = sym (ap held_count (take-replicate t.slots 1024 None t.inside) ∙ count_none t.slots); limited = omega arith }
 
 pub returns : goal.returns
 returns c =

@@ -7,7 +7,7 @@ use Rattle.finders.proofs.slot_table.SlotTable.new.Goals as goal
 pub invariant_of-result : goal.invariant_of-result
 invariant_of-result c =
     let inside : c.min.result ≤ 1024 = omega (arith, c.min.ensures) in
-    (refl, (inside, (sym (ap held_count (take-replicate c.min.result 1024 None inside) ∙ count_none c.min.result), (omega arith, tt))))
+    record { whole = refl; inside = inside; counted = sym (ap held_count (take-replicate c.min.result 1024 None inside) ∙ count_none c.min.result); limited = omega arith }
 
 pub returns : goal.returns
 returns c =

@@ -6,7 +6,7 @@ use Rattle.finders.proofs.slot_table.SlotTable.put.Goals as goal
 pub invariant_of-self : goal.invariant_of-self
 invariant_of-self c =
     let t = c.args.self.now in
-    (length-set t.entries c.args.slot c.args.entry ∙ t.whole, (t.inside, (c.requires.count ∙ ap held_count (sym (take_set t.slots t.entries c.args.slot c.args.entry)), (c.requires.limit, tt))))
+    record { whole = length-set t.entries c.args.slot c.args.entry ∙ t.whole; inside = t.inside; counted = c.requires.count ∙ ap held_count (sym (take_set t.slots t.entries c.args.slot c.args.entry)); limited = c.requires.limit }
 
 pub returns : goal.returns
 returns c =
