@@ -48,7 +48,7 @@ impl Flight {
     }
 
     fn is_admitted<H: Host>(self, host: &H) -> bool
-        ensures { result ≡ admitted_flight (answers host.now) self }
+        ensures { result ≡ admitted_flight (H.answers host.now) self }
     {
         host.admits(self.start) && host.admits(self.end) && host.admits(self.pose)
     }
@@ -83,7 +83,7 @@ pub fn check_flight<H: Host>(
     host: &H,
     flight: Flight,
 ) -> Result<(ShapeKind, ShapeKind), CastRefusal>
-    ensures { result ≡ checked (answers host.now) flight }
+    ensures { result ≡ checked (H.answers host.now) flight }
 {
     if !flight.in_range() {
         return Err(CastRefusal::NumberOutOfRange);

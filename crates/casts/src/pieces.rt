@@ -20,7 +20,7 @@ pub enum TargetKind {
 
 /// Whether a shape is one piece.
 pub fn is_piece<H: Host>(host: &H, shape: u32) -> bool
-    ensures { result ≡ is_proxy ((answers host.now).kind shape) }
+    ensures { result ≡ is_proxy ((H.answers host.now).kind shape) }
 {
     match host.kind(shape) {
         Some(ShapeKind::Proxy) => true,
@@ -30,7 +30,7 @@ pub fn is_piece<H: Host>(host: &H, shape: u32) -> bool
 
 /// Whether some child is a piece.
 fn has_piece<H: Host>(host: &H, children: &[Child]) -> bool
-    ensures { result ≡ has_proxy (answers host.now) children.now }
+    ensures { result ≡ has_proxy (H.answers host.now) children.now }
 {
     for child in children {
         if is_piece(host, child.shape) {
@@ -42,7 +42,7 @@ fn has_piece<H: Host>(host: &H, children: &[Child]) -> bool
 
 /// Whether a shape of this kind is swept as the moving one. Meshes and their like never are, nor is a Compound without a piece.
 pub fn is_swept<H: Host>(host: &H, shape: u32, kind: ShapeKind) -> bool
-    ensures { result ≡ swept_by (answers host.now) shape kind }
+    ensures { result ≡ swept_by (H.answers host.now) shape kind }
 {
     match kind {
         ShapeKind::Compound => has_piece(host, host.children(shape)),
@@ -68,7 +68,7 @@ pub fn target_kind(kind: ShapeKind) -> TargetKind
 
 /// The way of a child of a Compound that moves along the sweep.
 pub fn child_sweep<H: Host>(host: &H, sweep: Sweep, child: Child) -> Sweep
-    ensures { result ≡ child_sweep (answers host.now) sweep child }
+    ensures { result ≡ child_sweep (H.answers host.now) sweep child }
 {
     Sweep {
         start: host.product(sweep.start, child.pose),
@@ -85,7 +85,7 @@ pub fn cast_sub_shape<H: Host>(
     pair: PairKind,
     cap: f32,
 ) -> Option<CastOutcome>
-    ensures { result ≡ cast_at (answers host.now) query target pair cap }
+    ensures { result ≡ cast_at (H.answers host.now) query target pair cap }
 {
     match target {
         TargetKind::Proxy => Some(host.proxy_cast(query, cap)),

@@ -31,7 +31,7 @@ fn cast_piece<H: Host>(
     sweep: Sweep,
     report: &mut Report,
 )
-    ensures { report.new ≡ cast_piece (answers host.now) flight target report.old shape sweep }
+    ensures { report.new ≡ cast_piece (H.answers host.now) flight target report.old shape sweep }
 {
     let outcome = cast_sub_shape(host, query(flight, shape, sweep), target, flight.pair, 1.0);
     report.note(outcome, flight.pair);
@@ -45,7 +45,7 @@ fn cast_child<H: Host>(
     child: Child,
     report: &mut Report,
 )
-    ensures { report.new ≡ cast_child (answers host.now) flight target report.old child }
+    ensures { report.new ≡ cast_child (H.answers host.now) flight target report.old child }
 {
     if is_piece(host, child.shape) {
         let sweep = child_sweep(host, flight.sweep(), child);
@@ -61,7 +61,7 @@ fn cast_children<H: Host>(
     children: &[Child],
     report: &mut Report,
 )
-    ensures { report.new ≡ cast_children (answers host.now) flight target report.old children.now }
+    ensures { report.new ≡ cast_children (H.answers host.now) flight target report.old children.now }
 {
     for child in children {
         cast_child(host, flight, target, *child, report);
@@ -70,7 +70,7 @@ fn cast_children<H: Host>(
 
 /// Casts the whole shape once, as one that turns, for one time unit.
 fn cast_turning<H: Host>(host: &H, flight: Flight, report: &mut Report)
-    ensures { report.new ≡ cast_turning (answers host.now) flight report.old }
+    ensures { report.new ≡ cast_turning (H.answers host.now) flight report.old }
 {
     let outcome = host.turning_cast(
         TurningQuery {
@@ -94,7 +94,7 @@ fn cast_kinds<H: Host>(
     target: TargetKind,
     report: &mut Report,
 )
-    ensures { report.new ≡ cast_kinds (answers host.now) flight fast target report.old }
+    ensures { report.new ≡ cast_kinds (H.answers host.now) flight fast target report.old }
 {
     match (fast, target) {
         (ShapeKind::Other, _) | (_, TargetKind::Turning) => cast_turning(host, flight, report),
@@ -110,7 +110,7 @@ fn cast_kinds<H: Host>(
 
 /// Where the fast shape stands in the end: a solid impact stops it, a pseudo one does not.
 fn stands<H: Host>(host: &H, flight: Flight, impact: Option<f32>) -> Pose
-    ensures { result ≡ settled (answers host.now) flight impact }
+    ensures { result ≡ settled (H.answers host.now) flight impact }
 {
     match (flight.pair, impact) {
         (PairKind::Solid, Some(fraction)) => host.pose_at(flight.sweep(), fraction),
@@ -120,7 +120,7 @@ fn stands<H: Host>(host: &H, flight: Flight, impact: Option<f32>) -> Pose
 
 /// Casts a shape that is swept, and says where it then stands.
 fn cast_swept<H: Host>(host: &H, flight: Flight, fast: ShapeKind, target: TargetKind) -> Report
-    ensures { result ≡ cast_swept (answers host.now) flight fast target }
+    ensures { result ≡ cast_swept (H.answers host.now) flight fast target }
 {
     let mut report = Report::empty(flight.end);
     cast_kinds(host, flight, fast, target, &mut report);
@@ -129,7 +129,7 @@ fn cast_swept<H: Host>(host: &H, flight: Flight, fast: ShapeKind, target: Target
 }
 
 fn fly<H: Host>(host: &H, flight: Flight) -> Result<Report, CastRefusal>
-    ensures { result ≡ flown (answers host.now) flight }
+    ensures { result ≡ flown (H.answers host.now) flight }
 {
     let (fast, target) = check_flight(host, flight)?;
     if is_swept(host, flight.fast, fast) {
@@ -141,8 +141,8 @@ fn fly<H: Host>(host: &H, flight: Flight) -> Result<Report, CastRefusal>
 
 /// Casts a flight, or says why not.
 pub fn cast_flight<H: Host>(host: &H, flight: Flight) -> Result<Report, CastRefusal>
-    ensures value { result ≡ flown (answers host.now) flight }
-    ensures law { Flown (answers host.now) flight result }
+    ensures value { result ≡ flown (H.answers host.now) flight }
+    ensures law { Flown (H.answers host.now) flight result }
 {
     fly(host, flight)
 }

@@ -27,7 +27,7 @@ fn enter<H: Host, L: Finder>(
     collider: &Collider,
     list: &mut L,
 ) -> bool
-    ensures { (L.Finder.meaning list.new, result) ≡ entered (answers host.now) bodies.now (L.Finder.meaning list.old) handle collider.now }
+    ensures { (L.meaning list.new, result) ≡ entered (H.answers host.now) bodies.now (L.meaning list.old) handle collider.now }
 {
     if is_fixed_target(bodies, collider) {
         list.set(handle, host.aabb(collider.shape, collider.position))
@@ -44,7 +44,7 @@ fn enter_slot<H: Host, L: Finder>(
     record: &Slot<Collider>,
     list: &mut L,
 ) -> bool
-    ensures { (L.Finder.meaning list.new, result) ≡ slot_entered (answers host.now) bodies.now (L.Finder.meaning list.old) slot «record».now }
+    ensures { (L.meaning list.new, result) ≡ slot_entered (H.answers host.now) bodies.now (L.meaning list.old) slot «record».now }
 {
     match record {
         Slot::Live { generation, value } => {
@@ -65,7 +65,7 @@ pub fn collect_fixed_targets<H: Host, L: Finder>(
     colliders: &[Slot<Collider>],
     list: &mut L,
 ) -> bool
-    ensures { (L.Finder.meaning list.new, result) ≡ collected (answers host.now) bodies.now colliders.now (L.Finder.meaning list.old) }
+    ensures { (L.meaning list.new, result) ≡ collected (H.answers host.now) bodies.now colliders.now (L.meaning list.old) }
 {
     list.clear();
     if colliders.len() > MOST_SLOTS {

@@ -43,7 +43,7 @@ fn solve_non_bullets<H: Host, L: Finder, D: Finder, F: Filter>(
     results: &mut [BodyContinuousResult],
     hits: &mut [PseudoHit],
 ) -> Tally
-    ensures stage { (bodies.new, (results.new, hits.new, result)) ≡ first_stage (setting (H.Host.answers scene.now.host.now) (F.Filter.keeps scene.now.filter.now) scene.now.colliders.now scene.now.step (length candidates.old)) (if scene.now.listed then L.Finder.listed scene.now.fixed.now else D.Finder.listed scene.now.finder.now) active.now bodies.old results.old hits.old }
+    ensures stage { (bodies.new, (results.new, hits.new, result)) ≡ first_stage (setting (H.answers scene.now.host.now) (F.keeps scene.now.filter.now) scene.now.colliders.now scene.now.step (length candidates.old)) (if scene.now.listed then L.listed scene.now.fixed.now else D.listed scene.now.finder.now) active.now bodies.old results.old hits.old }
     ensures within { Within (results.new, hits.new, result) }
 {
     let none = Tally {
@@ -93,7 +93,7 @@ pub fn solve<H: Host, L: Finder, D: Finder, F: Filter>(
     hits: &mut [PseudoHit],
     events: &mut [CollisionEvent],
 ) -> Solved
-    ensures { (bodies.new, results.new, hits.new, events.new, result) ≡ solvedFrom (setting (H.Host.answers scene.now.host.now) (F.Filter.keeps scene.now.filter.now) scene.now.colliders.now scene.now.step (length candidates.old)) (if scene.now.listed then L.Finder.listed scene.now.fixed.now else D.Finder.listed scene.now.finder.now) (D.Finder.listed scene.now.finder.now) active.now bodies.old results.old hits.old events.old }
+    ensures { (bodies.new, results.new, hits.new, events.new, result) ≡ solvedFrom (setting (H.answers scene.now.host.now) (F.keeps scene.now.filter.now) scene.now.colliders.now scene.now.step (length candidates.old)) (if scene.now.listed then L.listed scene.now.fixed.now else D.listed scene.now.finder.now) (D.listed scene.now.finder.now) active.now bodies.old results.old hits.old events.old }
 {
     let plain = solve_non_bullets(scene, bodies, active, candidates, results, hits);
     let all = run_stage(

@@ -103,7 +103,7 @@ fn sweep_over<'h, H: Host, D: Finder, F: Filter>(
     hits: &mut [PseudoHit],
 ) -> Tally
     ensures grown { Within (results.old, hits.old, start) → Grown (results.old, hits.old, start) (results.new, hits.new, result) }
-    ensures log { (results.new, hits.new, result) ≡ stage_swept (env_of (H.Host.answers host.now) (D.Finder.listed finder.now) (F.Filter.keeps filter.now) bodies.now colliders.now step) (length candidates.old) bullets (results.old, hits.old, start) active.now }
+    ensures log { (results.new, hits.new, result) ≡ stage_swept (env_of (H.answers host.now) (D.listed finder.now) (F.keeps filter.now) bodies.now colliders.now step) (length candidates.old) bullets (results.old, hits.old, start) active.now }
 {
     let hall = Hall {
         host,
@@ -132,7 +132,7 @@ pub(crate) fn run_stage<H: Host, D: Finder, F: Filter>(
     hits: &mut [PseudoHit],
 ) -> Tally
     requires { Within (results.old, hits.old, start) }
-    ensures stage { (bodies.new, (results.new, hits.new, result)) ≡ staged (setting (H.Host.answers host.now) (F.Filter.keeps filter.now) colliders.now step (length candidates.old)) (D.Finder.listed finder.now) bullets active.now (bodies.old, (results.old, hits.old, start)) }
+    ensures stage { (bodies.new, (results.new, hits.new, result)) ≡ staged (setting (H.answers host.now) (F.keeps filter.now) colliders.now step (length candidates.old)) (D.listed finder.now) bullets active.now (bodies.old, (results.old, hits.old, start)) }
     ensures within { Within (results.new, hits.new, result) }
 {
     let tally = sweep_over(

@@ -18,7 +18,7 @@ pub fn is_clamped(res: BodyContinuousResult) -> bool
 
 /// The body, with the pose at a fraction of its way as its next position.
 fn stopped_at<H: Host>(host: &H, body: &RigidBody, fraction: f32) -> RigidBody
-    ensures { result ≡ stopped_at (answers host.now) body.now fraction }
+    ensures { result ≡ stopped_at (H.answers host.now) body.now fraction }
 {
     let sweep = Sweep {
         start: body.position,
@@ -32,7 +32,7 @@ fn stopped_at<H: Host>(host: &H, body: &RigidBody, fraction: f32) -> RigidBody
 
 /// Stops one body, if it is to stop.
 fn clamp<H: Host>(host: &H, bodies: &mut [Slot<RigidBody>], res: BodyContinuousResult)
-    ensures { bodies.new ≡ clamped_one (answers host.now) bodies.old res }
+    ensures { bodies.new ≡ clamped_one (H.answers host.now) bodies.old res }
 {
     if !is_clamped(res) {
         return;
@@ -50,7 +50,7 @@ pub fn apply_clamps<H: Host>(
     bodies: &mut [Slot<RigidBody>],
     results: &[BodyContinuousResult],
 )
-    ensures { bodies.new ≡ clamped_all (answers host.now) bodies.old results.now }
+    ensures { bodies.new ≡ clamped_all (H.answers host.now) bodies.old results.now }
 {
     for result in results {
         clamp(host, bodies, *result);

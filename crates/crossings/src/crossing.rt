@@ -17,7 +17,7 @@ fn overlap_at<H: Host>(
     second: &Collider,
     second_pose: Pose,
 ) -> bool
-    ensures { result ≡ overlaps_at (answers host.now) first.now first_pose second.now second_pose }
+    ensures { result ≡ overlaps_at (H.answers host.now) first.now first_pose second.now second_pose }
 {
     let relative = host.relative_pose(first_pose, second_pose);
     host.overlap(relative, first.shape, second.shape).is_yes()
@@ -25,7 +25,7 @@ fn overlap_at<H: Host>(
 
 /// Where a collider stands at the end of the step.
 fn end_pose<H: Host>(host: &H, bodies: &[Slot<RigidBody>], collider: &Collider) -> Pose
-    ensures { result ≡ end_pose (answers host.now) bodies.now collider.now }
+    ensures { result ≡ end_pose (H.answers host.now) bodies.now collider.now }
 {
     target_collider_pose(host, collider, parent_body(bodies, collider))
 }
@@ -37,7 +37,7 @@ fn pass_each_other<H: Host>(
     first: &Collider,
     second: &Collider,
 ) -> bool
-    ensures { result ≡ passes (answers host.now) bodies.now first.now second.now }
+    ensures { result ≡ passes (H.answers host.now) bodies.now first.now second.now }
 {
     (first.is_sensor() || second.is_sensor())
         && (first.has_events() || second.has_events())
@@ -59,7 +59,7 @@ pub fn is_crossing<H: Host>(
     fraction: f32,
     hit: PseudoHit,
 ) -> bool
-    ensures { result ≡ crosses (answers host.now) bodies.now colliders.now fraction hit }
+    ensures { result ≡ crosses (H.answers host.now) bodies.now colliders.now fraction hit }
 {
     if !(hit.fraction < fraction) {
         return false;

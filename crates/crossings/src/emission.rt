@@ -46,7 +46,7 @@ fn emit_hit<H: Host>(
     count: usize,
     events: &mut [CollisionEvent],
 ) -> usize
-    ensures { (events.new, result) ≡ emitted_one (answers host.now) bodies.now colliders.now results.now (events.old, count) hit }
+    ensures { (events.new, result) ≡ emitted_one (H.answers host.now) bodies.now colliders.now results.now (events.old, count) hit }
 {
     let fraction = fraction_at(results, hit.result);
     if is_crossing(host, bodies, colliders, fraction, hit) {
@@ -65,7 +65,7 @@ pub fn emit_events<H: Host>(
     hits: &[PseudoHit],
     events: &mut [CollisionEvent],
 ) -> usize
-    ensures { (events.new, result) ≡ emitted (answers host.now) bodies.now colliders.now results.now (events.old, 0) hits.now }
+    ensures { (events.new, result) ≡ emitted (H.answers host.now) bodies.now colliders.now results.now (events.old, 0) hits.now }
 {
     let mut count = 0;
     for hit in hits {

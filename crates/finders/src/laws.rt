@@ -31,23 +31,23 @@ pub fn reports_follow_what_is_held()
 
 /// Sets a collider's box. If that is granted, the finder, whatever it is, then reports the collider of each box that is met.
 pub fn set_to_be_reported<D: Finder>(finder: &mut D, collider: ColliderHandle, aabb: Aabb) -> bool
-    ensures set { (D.Finder.meaning finder.new, result) ≡ set_in (D.Finder.meaning finder.old) collider aabb }
-    ensures reported { result ≡ true → ReportedWhileMet (D.Finder.listed finder.new) collider aabb }
+    ensures set { (D.meaning finder.new, result) ≡ set_in (D.meaning finder.old) collider aabb }
+    ensures reported { result ≡ true → ReportedWhileMet (D.listed finder.new) collider aabb }
 {
     finder.set(collider, aabb)
 }
 
 /// Removes a collider. The finder, whatever it is, then reports it of no box.
 pub fn removed_from_reports<D: Finder>(finder: &mut D, collider: ColliderHandle)
-    ensures removed { D.Finder.meaning finder.new ≡ remove_in (D.Finder.meaning finder.old) collider }
-    ensures unreported { NeverReported (D.Finder.listed finder.new) collider }
+    ensures removed { D.meaning finder.new ≡ remove_in (D.meaning finder.old) collider }
+    ensures unreported { NeverReported (D.listed finder.new) collider }
 {
     finder.remove(collider);
 }
 
 /// Of two finders that hold alike, whatever they are, each one's reports are the other's in some order.
 pub fn finders_that_hold_alike_report_alike<D: Finder, E: Finder>(first: &D, second: &E)
-    ensures { Alike (D.Finder.meaning first.now).held (E.Finder.meaning second.now).held → ReportAlike (D.Finder.listed first.now) (E.Finder.listed second.now) }
+    ensures { Alike (D.meaning first.now).held (E.meaning second.now).held → ReportAlike (D.listed first.now) (E.listed second.now) }
 {}
 
 /// A leaf table refuses only what lies past its last slot: each slot below the capacity is taken.

@@ -18,7 +18,7 @@ pub fn cast_sub_shape<H: Host>(
     step: Step,
     cap: f32,
 ) -> Option<f32>
-    ensures { result ≡ sub_shape_taken (answers host.now) step target kind sub cap }
+    ensures { result ≡ sub_shape_taken (H.answers host.now) step target kind sub cap }
 {
     let query = CastQuery {
         fast: sub.shape,
@@ -41,7 +41,7 @@ fn cast_next<H: Host>(
     cap: f32,
     best: Option<f32>,
 ) -> Option<f32>
-    ensures { result ≡ later best (sub_shape_taken (answers host.now) step target kind sub (unwrap_or best cap)) }
+    ensures { result ≡ later best (sub_shape_taken (H.answers host.now) step target kind sub (unwrap_or best cap)) }
 {
     match cast_sub_shape(host, sub, target, kind, step, best.unwrap_or(cap)) {
         Some(fraction) => Some(fraction),
@@ -58,7 +58,7 @@ fn cast_sub_shapes<H: Host>(
     step: Step,
     cap: f32,
 ) -> Option<f32>
-    ensures { result ≡ sought (sub_shape_taken (answers host.now) step target kind) cap Nothing subs.now }
+    ensures { result ≡ sought (sub_shape_taken (H.answers host.now) step target kind) cap Nothing subs.now }
 {
     let mut best = None;
     for sub in subs {
@@ -75,7 +75,7 @@ pub fn fallback_nonlinear_fraction<H: Host>(
     step: Step,
     cap: f32,
 ) -> Option<f32>
-    ensures { result ≡ turning_taken (answers host.now) step target fast.now.shape fast.now.motion cap }
+    ensures { result ≡ turning_taken (H.answers host.now) step target fast.now.shape fast.now.motion cap }
 {
     if step.dt == 0.0 {
         return None;
@@ -100,7 +100,7 @@ fn cast_kinds<H: Host>(
     step: Step,
     cap: f32,
 ) -> Option<f32>
-    ensures { result ≡ taken_by (answers host.now) step target fast.now kind fast.now.kind cap }
+    ensures { result ≡ taken_by (H.answers host.now) step target fast.now kind fast.now.kind cap }
 {
     match (&fast.kind, kind) {
         (FastShapeKind::Nonlinear, _) | (_, TargetKind::Turning) => {
@@ -122,7 +122,7 @@ pub fn cast_collider_pair<H: Host>(
     step: Step,
     cap: f32,
 ) -> Option<f32>
-    ensures { result ≡ pair_taken (answers host.now) step target fast.now cap }
+    ensures { result ≡ pair_taken (H.answers host.now) step target fast.now cap }
 {
     let kind = host.kind(target.shape)?;
     cast_kinds(host, fast, target, target_kind(kind), step, cap)

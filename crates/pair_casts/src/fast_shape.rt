@@ -75,7 +75,7 @@ impl SubShapes {
 
 /// Adds a child that is a piece; passes over any other.
 fn collect_child<H: Host>(host: &H, sweep: Sweep, child: Child, subs: &mut SubShapes)
-    ensures { subs.new ≡ collected_child (answers host.now) sweep subs.old child }
+    ensures { subs.new ≡ collected_child (H.answers host.now) sweep subs.old child }
 {
     if is_piece(host, child.shape) {
         subs.add(FastSubShape {
@@ -87,7 +87,7 @@ fn collect_child<H: Host>(host: &H, sweep: Sweep, child: Child, subs: &mut SubSh
 
 /// Adds the children that are pieces, in their order.
 fn collect<H: Host>(host: &H, sweep: Sweep, children: &[Child], subs: &mut SubShapes)
-    ensures { subs.new ≡ collected (answers host.now) sweep subs.old children.now }
+    ensures { subs.new ≡ collected (H.answers host.now) sweep subs.old children.now }
 {
     for child in children {
         collect_child(host, sweep, *child, subs);
@@ -96,7 +96,7 @@ fn collect<H: Host>(host: &H, sweep: Sweep, children: &[Child], subs: &mut SubSh
 
 /// The pieces of a Compound, if there are any.
 fn compound<H: Host>(host: &H, shape: u32, sweep: Sweep) -> Option<FastShapeKind>
-    ensures { result ≡ compound_of (collected (answers host.now) sweep (none_yet (record { shape = shape; sweep = sweep })) ((answers host.now).children shape)) }
+    ensures { result ≡ compound_of (collected (H.answers host.now) sweep (none_yet (record { shape = shape; sweep = sweep })) ((H.answers host.now).children shape)) }
 {
     let mut subs = SubShapes::none(FastSubShape { shape, sweep });
     collect(host, sweep, host.children(shape), &mut subs);
@@ -109,7 +109,7 @@ fn compound<H: Host>(host: &H, shape: u32, sweep: Sweep) -> Option<FastShapeKind
 
 /// How a shape is swept along a sweep; none of what is never swept.
 fn sweep_kind<H: Host>(host: &H, shape: u32, sweep: Sweep) -> Option<FastShapeKind>
-    ensures { result ≡ kind_of (answers host.now) shape sweep ((answers host.now).kind shape) }
+    ensures { result ≡ kind_of (H.answers host.now) shape sweep ((H.answers host.now).kind shape) }
 {
     match host.kind(shape)? {
         ShapeKind::Proxy => Some(FastShapeKind::Convex(FastSubShape { shape, sweep })),
@@ -128,7 +128,7 @@ impl FastShape {
         linvel: Vector,
         angvel: Vector,
     ) -> Option<FastShape>
-        ensures { result ≡ fast_shape (answers host.now) shape sweep linvel angvel }
+        ensures { result ≡ fast_shape (H.answers host.now) shape sweep linvel angvel }
     {
         let kind = sweep_kind(host, shape, sweep)?;
         Some(FastShape {

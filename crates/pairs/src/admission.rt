@@ -48,7 +48,7 @@ pub fn pair_filtered_out_by_hooks<F: Filter>(
     handle: ColliderHandle,
     collider: &Collider,
 ) -> bool
-    ensures { result ≡ filtered_out (F.Filter.keeps filter.now) (fast_of fast.now) handle collider.now }
+    ensures { result ≡ filtered_out (F.keeps filter.now) (fast_of fast.now) handle collider.now }
 {
     (fast.collider.has_hook() || collider.has_hook()) && !filter.keep(fast.handle, handle)
 }
@@ -61,7 +61,7 @@ pub fn is_admitted<F: Filter>(
     collider: &Collider,
     other: Option<&RigidBody>,
 ) -> bool
-    ensures { result ≡ admits (F.Filter.keeps filter.now) (fast_of fast.now) handle collider.now (option_map (λ x. x.now) other.entry) }
+    ensures { result ≡ admits (F.keeps filter.now) (fast_of fast.now) handle collider.now (option_map (λ x. x.now) other.entry) }
 {
     !is_of_body(collider, fast.owner)
         && tier_allows(fast.body, other)

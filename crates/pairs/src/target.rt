@@ -25,7 +25,7 @@ pub fn target_collider_pose<H: Host>(
     collider: &Collider,
     body: Option<&RigidBody>,
 ) -> Pose
-    ensures { result ≡ stands_at (answers host.now) collider.now (option_map (λ x. x.now) body.entry) }
+    ensures { result ≡ stands_at (H.answers host.now) collider.now (option_map (λ x. x.now) body.entry) }
 {
     match (collider.parent, body) {
         (Some(parent), Some(body)) => host.product(body.next, parent.relative),

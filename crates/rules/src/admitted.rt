@@ -10,14 +10,14 @@ use slots::{Slot, get};
 
 /// Whether the host admits both poses of a body.
 fn admits_body<H: Host>(host: &H, body: &RigidBody) -> bool
-    ensures { result ≡ admitted_body (H.Host.answers host.now) body.now }
+    ensures { result ≡ admitted_body (H.answers host.now) body.now }
 {
     host.admits(body.position) && host.admits(body.next)
 }
 
 /// Whether the host admits what stands at a relative pose of a body, at both poses of the body.
 fn admits_from<H: Host>(host: &H, relative: Pose, body: &RigidBody) -> bool
-    ensures { result ≡ admitted_from (H.Host.answers host.now) relative body.now }
+    ensures { result ≡ admitted_from (H.answers host.now) relative body.now }
 {
     host.admits(host.product(body.position, relative))
         && host.admits(host.product(body.next, relative))
@@ -25,7 +25,7 @@ fn admits_from<H: Host>(host: &H, relative: Pose, body: &RigidBody) -> bool
 
 /// Whether the host admits a collider where it stands. One whose body is not live is passed over.
 fn admits_collider<H: Host>(host: &H, bodies: &[Slot<RigidBody>], collider: &Collider) -> bool
-    ensures { result ≡ admitted_collider (H.Host.answers host.now) bodies.now collider.now }
+    ensures { result ≡ admitted_collider (H.answers host.now) bodies.now collider.now }
 {
     let Some(parent) = collider.parent else {
         return host.admits(collider.position);
@@ -37,7 +37,7 @@ fn admits_collider<H: Host>(host: &H, bodies: &[Slot<RigidBody>], collider: &Col
 }
 
 fn admits_body_slot<H: Host>(host: &H, slot: &Slot<RigidBody>) -> bool
-    ensures { result ≡ record_holds (admitted_body (H.Host.answers host.now)) slot.now }
+    ensures { result ≡ record_holds (admitted_body (H.answers host.now)) slot.now }
 {
     match slot {
         Slot::Live { value, .. } => admits_body(host, value),
@@ -50,7 +50,7 @@ fn admits_collider_slot<H: Host>(
     bodies: &[Slot<RigidBody>],
     slot: &Slot<Collider>,
 ) -> bool
-    ensures { result ≡ record_holds (admitted_collider (H.Host.answers host.now) bodies.now) slot.now }
+    ensures { result ≡ record_holds (admitted_collider (H.answers host.now) bodies.now) slot.now }
 {
     match slot {
         Slot::Live { value, .. } => admits_collider(host, bodies, value),
@@ -59,7 +59,7 @@ fn admits_collider_slot<H: Host>(
 }
 
 fn admits_bodies<H: Host>(host: &H, bodies: &[Slot<RigidBody>]) -> bool
-    ensures { result ≡ every_record (admitted_body (H.Host.answers host.now)) bodies.now }
+    ensures { result ≡ every_record (admitted_body (H.answers host.now)) bodies.now }
 {
     for slot in bodies {
         if !admits_body_slot(host, slot) {
@@ -74,7 +74,7 @@ fn admits_colliders<H: Host>(
     bodies: &[Slot<RigidBody>],
     colliders: &[Slot<Collider>],
 ) -> bool
-    ensures { result ≡ every_record (admitted_collider (H.Host.answers host.now) bodies.now) colliders.now }
+    ensures { result ≡ every_record (admitted_collider (H.answers host.now) bodies.now) colliders.now }
 {
     for slot in colliders {
         if !admits_collider_slot(host, bodies, slot) {
@@ -86,7 +86,7 @@ fn admits_colliders<H: Host>(
 
 /// The tests of `admits_all`.
 fn admits<H: Host>(host: &H, bodies: &[Slot<RigidBody>], colliders: &[Slot<Collider>]) -> bool
-    ensures { result ≡ all_admitted (H.Host.answers host.now) bodies.now colliders.now }
+    ensures { result ≡ all_admitted (H.answers host.now) bodies.now colliders.now }
 {
     admits_bodies(host, bodies) && admits_colliders(host, bodies, colliders)
 }
@@ -98,8 +98,8 @@ pub fn admits_all<H: Host>(
     bodies: &[Slot<RigidBody>],
     colliders: &[Slot<Collider>],
 ) -> bool
-    ensures value { result ≡ all_admitted (H.Host.answers host.now) bodies.now colliders.now }
-    ensures decides { Decides result (AllAdmitted (H.Host.answers host.now) bodies.now colliders.now) }
+    ensures value { result ≡ all_admitted (H.answers host.now) bodies.now colliders.now }
+    ensures decides { Decides result (AllAdmitted (H.answers host.now) bodies.now colliders.now) }
 {
     admits(host, bodies, colliders)
 }

@@ -17,7 +17,7 @@ fn stands_right<H: Host>(
     relative: Pose,
     body: &RigidBody,
 ) -> bool
-    ensures { result ≡ stands_right (H.Host.answers host.now) handle own relative body.now }
+    ensures { result ≡ stands_right (H.answers host.now) handle own relative body.now }
 {
     body.colliders.contains(handle) && same_pose(own, host.product(body.position, relative))
 }
@@ -30,7 +30,7 @@ fn parent_holds<H: Host>(
     own: Pose,
     parent: Option<ColliderParent>,
 ) -> bool
-    ensures { result ≡ parent_holds (H.Host.answers host.now) bodies.now handle own parent }
+    ensures { result ≡ parent_holds (H.answers host.now) bodies.now handle own parent }
 {
     let Some(parent) = parent else {
         return true;
@@ -50,7 +50,7 @@ fn collider_holds<H: Host>(
     handle: ColliderHandle,
     collider: &Collider,
 ) -> bool
-    ensures { result ≡ collider_holds (H.Host.answers host.now) bodies.now handle collider.now }
+    ensures { result ≡ collider_holds (H.answers host.now) bodies.now handle collider.now }
 {
     host.kind(collider.shape).is_some()
         && parent_holds(host, bodies, handle, collider.position, collider.parent)
@@ -63,7 +63,7 @@ fn collider_slot_holds<H: Host>(
     at: u32,
     slot: &Slot<Collider>,
 ) -> bool
-    ensures { result ≡ live_holds (collider_rule (H.Host.answers host.now) bodies.now) at slot.now }
+    ensures { result ≡ live_holds (collider_rule (H.answers host.now) bodies.now) at slot.now }
 {
     let Slot::Live { generation, value } = slot else {
         return true;
@@ -82,7 +82,7 @@ pub(crate) fn colliders_hold<H: Host>(
     colliders: &[Slot<Collider>],
 ) -> bool
     requires { length colliders.now < 2 ^ 32 }
-    ensures { result ≡ every_live (collider_rule (H.Host.answers host.now) bodies.now) 0 colliders.now }
+    ensures { result ≡ every_live (collider_rule (H.answers host.now) bodies.now) 0 colliders.now }
 {
     for (i, slot) in colliders.iter().enumerate() {
         if !collider_slot_holds(host, bodies, i as u32, slot) {

@@ -24,8 +24,8 @@ pub fn stores_hold<H: Host>(
     colliders_header: &Header,
     colliders: &[Slot<Collider>],
 ) -> bool
-    ensures value { result ≡ stores_hold (H.Host.answers host.now) (state bodies_header.now bodies.now) (state colliders_header.now colliders.now) }
-    ensures decides { Decides result (StoresHold (H.Host.answers host.now) (state bodies_header.now bodies.now) (state colliders_header.now colliders.now)) }
+    ensures value { result ≡ stores_hold (H.answers host.now) (state bodies_header.now bodies.now) (state colliders_header.now colliders.now) }
+    ensures decides { Decides result (StoresHold (H.answers host.now) (state bodies_header.now bodies.now) (state colliders_header.now colliders.now)) }
 {
     obey(host, bodies_header, bodies, colliders_header, colliders)
 }
@@ -38,7 +38,7 @@ fn obey<H: Host>(
     colliders_header: &Header,
     colliders: &[Slot<Collider>],
 ) -> bool
-    ensures { result ≡ stores_hold (H.Host.answers host.now) (state bodies_header.now bodies.now) (state colliders_header.now colliders.now) }
+    ensures { result ≡ stores_hold (H.answers host.now) (state bodies_header.now bodies.now) (state colliders_header.now colliders.now) }
 {
     bodies.len() <= MOST_BODY_SLOTS
         && colliders.len() <= MOST_COLLIDER_SLOTS

@@ -17,7 +17,7 @@ use slots::get;
 
 /// The way of a collider that stands at a relative pose of its body.
 fn collider_sweep<H: Host>(host: &H, body: &RigidBody, relative: Pose) -> Sweep
-    ensures { result ≡ sweep_of (answers host.now) body.now relative }
+    ensures { result ≡ sweep_of (H.answers host.now) body.now relative }
 {
     Sweep {
         start: host.product(body.position, relative),
@@ -28,7 +28,7 @@ fn collider_sweep<H: Host>(host: &H, body: &RigidBody, relative: Pose) -> Sweep
 
 /// The box that holds a shape at both ends of its way.
 fn swept_aabb<H: Host>(host: &H, shape: u32, sweep: Sweep) -> Aabb
-    ensures { result ≡ swept_box (answers host.now) shape sweep }
+    ensures { result ≡ swept_box (H.answers host.now) shape sweep }
 {
     host.aabb(shape, sweep.start)
         .merged(host.aabb(shape, sweep.end))

@@ -13,5 +13,5 @@ unfolding moved
 returns g c =
     let h = g.H.Host.answers c.args.host.now in
     let f = c.args.flight in
-    let cast = c.cast_kinds.ensures ∙ ap (cast_kinds h f c.args.fast c.args.target) c.empty_report.ensures in
+    let cast = c.cast_kinds.ensures ∙ ap (cast_kinds h f c.args.fast c.args.target) c.empty-report.ensures in
     ap (moved c.cast_kinds.new.report) c.stands-report.ensures ∙ ap (standing h f) cast

@@ -16,7 +16,7 @@ loop-child-preserved c =
     let p = c.args.pose in
     let pair = c.args.pair in
     let i = c.loop-child.child-index in
-    let met = c.meeting_met.ensures ∙ ap (λ (b : Aabb). meeting_of f b d) c.child_box.ensures in
+    let met = c.meeting-met.ensures ∙ ap (λ (b : Aabb). meeting_of f b d) c.child_box.ensures in
     let best = c.sooner-best.ensures ∙ ap (sooner_of c.loop-child.best) (c.counted.ensures ∙ ap (λ (m : Option Float). counted_for m pair) met) in
     ap (λ (b : Option Float). first_meeting ss f d p pair b (drop (i + 1) cs)) best
     ∙ turned (first_meeting ss f d p pair c.loop-child.best) cs i blank c.loop-child-test.true c.loop-child.invariant
