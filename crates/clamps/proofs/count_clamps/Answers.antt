@@ -6,8 +6,8 @@ use Rattle.clamps.proofs.count_clamps.Goals as goal
 
 pub loop-result-preserved : goal.loop-result-preserved
 loop-result-preserved c =
-    let e = at_drop_more clamp_count c.args.results.now c.loop-result.result_index blank_result c.loop-result-test.true in search rules
+    let e = at_drop_more clamp_count c.args.results.now c.loop-result.result-index blank_result c.loop-result-test.true in search rules
 
 pub returns : goal.returns
 returns c =
-    let e = at_drop_all clamp_count c.args.results.now c.loop-result.result_index c.loop-result-test.false in search rules
+    let e = at_drop_all clamp_count c.args.results.now c.loop-result.result-index c.loop-result-test.false in search rules
