@@ -1,10 +1,9 @@
 -- The casts of all pieces, one after the other: each is noted in its place, and the least impact stays. Assumes nothing.
-use Rattle.std.proofs.Common.{◌≡◌, ℕ, zero, suc, ◌+◌, ◌-◌, ◌<◌, ◌≤◌, Bool, true, false, cond, ltb, ◌≢◌, List, [], ◌∷◌, length, get_or, set, Some, None, Option, sym, refl, ap, ◌∙◌, subst, arith, length-set, get_or-set_other, get_or-set_same, lt-ltb}
+use Rattle.std.proofs.Common.{◌≡◌, ℕ, zero, suc, ◌+◌, ◌<◌, ◌≤◌, Bool, true, false, cond, ◌≢◌, List, [], ◌∷◌, length, get_or, set, Some, None, Option, sym, refl, ap, ◌∙◌, arith, length-set, get_or-set_other, get_or-set_same, lt-ltb}
 use lib.Ieee.{Float, lt}
 use Rattle.std.specs.List.{best_of}
 use Rattle.numbers.specs.Least.{least}
 use Rattle.outcomes.specs.declared.cast_outcome.CastOutcome.{CastOutcome}
-use Rattle.outcomes.specs.declared.pair_kind.PairKind.{PairKind}
 use Rattle.hosts.specs.declared.questions.Child.{Child}
 use Rattle.hosts.specs.declared.questions.Sweep.{Sweep}
 use Rattle.hosts.specs.Hosts.{Answers}
@@ -15,7 +14,7 @@ use Rattle.casts.specs.declared.report.Report.{Report}
 use Rattle.casts.specs.Flights.{sweep_of}
 use Rattle.casts.specs.Pieces.{is_proxy, child_sweep}
 use Rattle.casts.specs.Reports.{empty_report, noted, took_of}
-use Rattle.casts.specs.Singles.{piece_cast, cast_piece, cast_child, cast_children, child_pieces, found, impacts_of, ByPieces}
+use Rattle.casts.specs.Singles.{piece_cast, cast_piece, cast_children, child_pieces, found, impacts_of, ByPieces}
 
 -- ---- the least of what is there
 

@@ -1,5 +1,5 @@
 -- What a flight finds, of every lawful host. Assumes nothing.
-use Rattle.std.proofs.Common.{◌≡◌, ℕ, suc, ◌≤◌, Bool, true, false, cond, ◌&&◌, T, ◌⊎◌, List, [], ◌∷◌, length, Some, None, Ok, Err, MatchBool, Option, sym, refl, ap, ◌∙◌, subst, inl, inr, arith}
+use Rattle.std.proofs.Common.{◌≡◌, ℕ, suc, ◌≤◌, Bool, true, false, cond, ◌&&◌, T, List, [], ◌∷◌, length, Some, None, Err, MatchBool, Option, sym, refl, ap, ◌∙◌, subst, inl, inr, arith}
 use lib.Ieee.{Float, binary32, of_bits, fits, lt, le}
 use lib.Ieee.Scale.{finite}
 use Rattle.std.specs.List.{best_of, AllByRecursion}
@@ -23,14 +23,14 @@ use Rattle.hosts.specs.declared.questions.CastQuery.{CastQuery}
 use Rattle.hosts.specs.Hosts.{Answers}
 use Rattle.hosts.specs.HostLaws.{Lawful, Inner, SweepAdmitted}
 use Rattle.casts.specs.declared.flight.Flight.{Flight}
-use Rattle.casts.specs.declared.flight.CastRefusal.TheVariants.{NumberOutOfRange, PoseNotAdmitted, ShapeUnknown}
+use Rattle.casts.specs.declared.flight.CastRefusal.TheVariants.{NumberOutOfRange, PoseNotAdmitted}
 use Rattle.casts.specs.declared.pieces.TargetKind.{TargetKind}
 use Rattle.casts.specs.declared.pieces.TargetKind.TheVariants.{Proxy, Composite, Turning}
 use Rattle.casts.specs.declared.report.Report.{Report}
 use Rattle.casts.specs.Flights.{ranged_flight, admitted_flight, sweep_of, both_known}
 use Rattle.casts.specs.Pieces.{is_proxy, swept_by, target_kind_of, child_sweep, cast_at}
 use Rattle.casts.specs.Reports.{empty_report, took_of}
-use Rattle.casts.specs.Singles.{query_of, piece_cast, cast_turning, turning_query, turning_answer, cast_pieces, turns, cast_kinds, settled_by, settled, standing, cast_swept, flown_by, flown, child_pieces, pieces_of, found, impacts_of, ByPieces, ByTurning, FoundBy, Found, Flown}
+use Rattle.casts.specs.Singles.{query_of, piece_cast, cast_turning, turning_query, turning_answer, cast_pieces, turns, cast_kinds, settled_by, settled, standing, cast_swept, flown_by, flown, child_pieces, pieces_of, found, impacts_of, ByPieces, ByTurning, Found, Flown}
 use Rattle.casts.proofs.Searches.{children_all, by_pieces}
 
 -- ---- a solid impact lies strictly inside the sweep

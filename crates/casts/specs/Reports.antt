@@ -1,5 +1,5 @@
 -- What a single check found. Assumes nothing.
-use Rattle.std.specs.Prelude.{ℕ, ◌+◌, cond, List, replicate, Some, None, Option, nat_lt, slice_set, Float}
+use Rattle.std.specs.Prelude.{◌+◌, cond, replicate, Some, None, Option, nat_lt, slice_set, Float}
 use Rattle.numbers.specs.Constants.{one_f}
 use Rattle.geometry.specs.declared.pose.Pose.{Pose}
 use Rattle.outcomes.specs.declared.pair_kind.PairKind.{PairKind}

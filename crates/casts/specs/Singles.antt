@@ -1,5 +1,5 @@
 -- What a flight answers. Assumes nothing.
-use Rattle.std.specs.Prelude.{◌≡◌, ℕ, ◌<◌, Bool, true, false, cond, T, ◌⊎◌, List, [], ◌∷◌, length, get_or, Some, None, Ok, Err, MatchBool, Option, Result, slice_index_or, Float}
+use Rattle.std.specs.Prelude.{◌≡◌, ℕ, ◌<◌, Bool, true, false, cond, T, ◌⊎◌, List, [], ◌∷◌, length, Some, None, Ok, Err, MatchBool, Option, Result, slice_index_or, Float}
 use Rattle.numbers.specs.Constants.{zero_f, one_f}
 use Rattle.numbers.specs.Least.{least}
 use Rattle.geometry.specs.declared.pose.Pose.{Pose}
@@ -130,7 +130,7 @@ impacts_of h f t (p ∷ ps) = found (took_of f.pair (piece_cast h f t p.0 p.1)) 
 -- Of casts of pieces: there is one for each piece, in order, and the pair's impact is the least of theirs.
 pub record ByPieces (h : Answers) (f : Flight) (t : TargetKind) (ps : List (ℕ × Sweep)) (r : Report) : Type 0 where
   pub all_cast : r.count ≡ length ps
-  pub in_order : (i : ℕ) → i < length ps → slice_index_or r.pieces i None ≡ piece_cast h f t (get_or ps i (0, sweep_of f)).0 (get_or ps i (0, sweep_of f)).1
+  pub in_order : (i : ℕ) → i < length ps → slice_index_or r.pieces i None ≡ piece_cast h f t (slice_index_or ps i (0, sweep_of f)).0 (slice_index_or ps i (0, sweep_of f)).1
   pub least_impact : r.impact ≡ least (impacts_of h f t ps)
 
 -- Of one turning cast: the pair's impact is its time over the time unit, where that lies in the pair's range.

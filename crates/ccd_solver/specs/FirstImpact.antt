@@ -1,5 +1,5 @@
 -- The first impact of a step. Assumes nothing.
-use Rattle.std.specs.Prelude.{ℕ, Bool, cond, List, [], ◌∷◌, Some, None, Option, Float}
+use Rattle.std.specs.Prelude.{ℕ, cond, List, [], ◌∷◌, Some, None, Option, Float}
 use Rattle.std.specs.Float.Ieee.{lt, mul, neg}
 use Rattle.std.specs.Float.{next_up, binary32}
 use Rattle.numbers.specs.Constants.{zero_f, one_f}

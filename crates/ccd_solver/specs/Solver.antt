@@ -1,5 +1,5 @@
 -- The end of a step. Assumes nothing.
-use Rattle.std.specs.Prelude.{ℕ, Bool, true, false, cond, List, take}
+use Rattle.std.specs.Prelude.{ℕ, true, false, List, take}
 use Rattle.geometry.specs.declared.handle.RigidBodyHandle.{RigidBodyHandle}
 use Rattle.finders.specs.Finders.{Listing}
 use Rattle.slots.specs.declared.Slot.{Slot}

@@ -1,7 +1,7 @@
 //! The end of a step.
 ghost use Rattle.std.specs.Prelude.{◌≡◌, length, if◌then◌else◌};
 ghost use Rattle.ccd_solver.specs.Stages.{setting, Within, tally as tallied};
-ghost use Rattle.ccd_solver.specs.Solver.{first_stage, solved as solvedFrom};
+ghost use Rattle.ccd_solver.specs.Solver.{first_stage, solved as solved_from};
 
 use crate::stages::{Tally, run_stage};
 use clamps::count_clamps;
@@ -93,7 +93,7 @@ pub fn solve<H: Host, L: Finder, D: Finder, F: Filter>(
     hits: &mut [PseudoHit],
     events: &mut [CollisionEvent],
 ) -> Solved
-    ensures { (bodies.new, results.new, hits.new, events.new, result) ≡ solvedFrom (setting (H.answers scene.now.host.now) (F.keeps scene.now.filter.now) scene.now.colliders.now scene.now.step (length candidates.old)) (if scene.now.listed then L.listed scene.now.fixed.now else D.listed scene.now.finder.now) (D.listed scene.now.finder.now) active.now bodies.old results.old hits.old events.old }
+    ensures { (bodies.new, results.new, hits.new, events.new, result) ≡ solved_from (setting (H.answers scene.now.host.now) (F.keeps scene.now.filter.now) scene.now.colliders.now scene.now.step (length candidates.old)) (if scene.now.listed then L.listed scene.now.fixed.now else D.listed scene.now.finder.now) (D.listed scene.now.finder.now) active.now bodies.old results.old hits.old events.old }
 {
     let plain = solve_non_bullets(scene, bodies, active, candidates, results, hits);
     let all = run_stage(

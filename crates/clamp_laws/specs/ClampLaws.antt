@@ -1,5 +1,5 @@
 -- What clamping does to the bodies. Assumes nothing.
-use Rattle.std.specs.Prelude.{◌≡◌, ℕ, T, List, [], ◌∷◌, length, Some, ◌≢◌}
+use Rattle.std.specs.Prelude.{◌≡◌, T, List, [], ◌∷◌, length, Some, ◌≢◌}
 use Rattle.std.specs.List.{ContainsAt as Has}
 use Rattle.geometry.specs.declared.handle.RigidBodyHandle.{RigidBodyHandle}
 use Rattle.geometry.specs.declared.handle.ColliderHandle.{ColliderHandle}

@@ -2,7 +2,6 @@
 use Rattle.std.specs.Prelude.{ℕ, ◌+◌, Bool, false, cond, not, ◌&&◌, ◌||◌, List, [], ◌∷◌, length, Some, None, Option, nat_lt, slice_index_or, slice_set, Float}
 use Rattle.std.specs.Float.Ieee.{lt}
 use Rattle.numbers.specs.Constants.{zero_f}
-use Rattle.geometry.specs.declared.handle.ColliderHandle.{ColliderHandle}
 use Rattle.geometry.specs.declared.pose.Pose.{Pose}
 use Rattle.outcomes.specs.Outcomes.{is_yes}
 use Rattle.hosts.specs.Hosts.{Answers}

@@ -1,6 +1,6 @@
 //! The events of crossings.
 ghost use Rattle.std.specs.Prelude.{◌≡◌};
-ghost use Rattle.crossings.specs.Crossings.{fraction_at, written as writtenAfter, emitted_one, emitted};
+ghost use Rattle.crossings.specs.Crossings.{fraction_at, written as written_after, emitted_one, emitted};
 
 use crate::crossing::is_crossing;
 use crate::event::CollisionEvent;
@@ -25,7 +25,7 @@ fn fraction_at(results: &[BodyContinuousResult], number: usize) -> f32
 
 /// Writes the two events of a crossing after the first `count`, where there is room for both, and says how many are written then.
 fn write_events(hit: PseudoHit, count: usize, events: &mut [CollisionEvent]) -> usize
-    ensures { (events.new, result) ≡ writtenAfter (events.old, count) hit }
+    ensures { (events.new, result) ≡ written_after (events.old, count) hit }
 {
     let room = events.len();
     if count >= room || count + 1 >= room {

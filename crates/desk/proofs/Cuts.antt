@@ -1,5 +1,5 @@
 -- Children that were kept and are forgotten again leave the desk as it was. Assumes nothing.
-use Rattle.std.proofs.Common.{◌≡◌, ℕ, zero, suc, List, [], ◌∷◌, ◌++◌, length, take, refl, ap, ◌∙◌}
+use Rattle.std.proofs.Common.{◌≡◌, ℕ, List, [], ◌∷◌, ◌++◌, length, take, refl, ap, ◌∙◌}
 use Rattle.hosts.specs.declared.questions.Child.{Child}
 use Rattle.script.specs.declared.command.Children.{Children}
 use Rattle.desk.specs.Desks.{Contents, named, children_kept, children_cut}

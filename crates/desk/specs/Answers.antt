@@ -1,5 +1,5 @@
 -- What each command is answered, and what it leaves on the desk. Assumes nothing.
-use Rattle.std.specs.Prelude.{List, Ok, Err, Result}
+use Rattle.std.specs.Prelude.{Ok, Err, Result}
 use Rattle.casts.specs.declared.flight.Flight.{Flight}
 use Rattle.casts.specs.declared.flight.CastRefusal.{CastRefusal}
 use Rattle.casts.specs.declared.report.Report.{Report}

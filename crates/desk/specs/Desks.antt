@@ -10,7 +10,7 @@ use Rattle.recorded.specs.declared.rows.Listed.{Listed}
 use Rattle.recorded.specs.declared.rows.Row.{Row}
 use Rattle.script.specs.declared.command.Children.{Children}
 use Rattle.script.specs.declared.command.HostChoice.{HostChoice}
-use Rattle.script.specs.declared.command.HostChoice.TheVariants.{Slide, Recorded}
+use Rattle.script.specs.declared.command.HostChoice.TheVariants.{Slide}
 use Rattle.desk.specs.declared.lists.Desk.{Desk}
 
 pub record Contents : Type 0 where

@@ -1,11 +1,11 @@
 -- Which pairs a filter of barred pairs drops. Assumes nothing.
-use Rattle.std.proofs.Common.{◌≡◌, Bool, true, false, not, ◌&&◌, ◌||◌, eqb, ◌⊎◌, List, [], ◌∷◌, take, sym, refl, ap, ◌∙◌, inl, inr}
+use Rattle.std.proofs.Common.{◌≡◌, true, ◌&&◌, eqb, List, [], ◌∷◌, take, sym, refl, ap, ◌∙◌, inl, inr}
 use Rattle.std.proofs.lemmas.Bool.{and_from, and_parts, or_left, or_right, or_cases, not-false, not_from_true, eqb-true, eq-eqb, false≢true}
 use Rattle.geometry.specs.declared.handle.ColliderHandle.{ColliderHandle}
 use Rattle.finders.specs.declared.barred_pairs.BarredPair.{BarredPair}
 use Rattle.finders.specs.Members.{In}
 use Rattle.finders.specs.Finders.{slot_of, generation_of}
-use Rattle.finders.specs.Filters.{same_collider, bars, barred_in, keeps_of, IsPair, BarringLaws}
+use Rattle.finders.specs.Filters.{same_collider, bars, barred_in, IsPair, BarringLaws}
 use Rattle.finders.proofs.Settings.{same_collider_lem}
 
 same_true : (a b : ColliderHandle) → same_collider a b ≡ true → a ≡ b

@@ -1,10 +1,9 @@
 -- The laws of a finder. Assumes nothing.
-use Rattle.std.specs.Prelude.{◌≡◌, ℕ, ◌≤◌, Bool, true, false, T, ◌⊎◌, List, [], length, Some, None, ◌≢◌, Float}
+use Rattle.std.specs.Prelude.{◌≡◌, ℕ, ◌≤◌, true, false, T, ◌⊎◌, List, [], length, Some, None, ◌≢◌, Float}
 use Rattle.std.specs.List.Sorted.{IsPermutation}
 use Rattle.geometry.specs.declared.handle.ColliderHandle.{ColliderHandle}
 use Rattle.geometry.specs.declared.aabb.Aabb.{Aabb}
 use Rattle.geometry.specs.Boxes.{loosened_by, meet_of}
-use Rattle.finders.specs.declared.entry.Entry.{Entry}
 use Rattle.finders.specs.Members.{In, Distinct}
 use Rattle.finders.specs.Finders.{Held, Meaning, Listing, empty, slot_of, entry_at, box_of, held_count, meets, set_in, remove_in}
 

@@ -1,6 +1,5 @@
 -- What a finder holds, and what setting, removing and reporting make of it. Assumes nothing.
 use Rattle.std.specs.Prelude.{ℕ, Bool, true, false, cond, ◌&&◌, ◌||◌, List, length, replicate, is_some, Some, None, count_by, Option, ◌==◌, nat_lt, slice_index_or, slice_set, Float}
-use Rattle.geometry.specs.declared.handle.Handle.{Handle}
 use Rattle.geometry.specs.declared.handle.ColliderHandle.{ColliderHandle}
 use Rattle.geometry.specs.declared.aabb.Aabb.{Aabb}
 use Rattle.geometry.specs.Boxes.{loosened_by, meet_of}

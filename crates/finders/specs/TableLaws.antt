@@ -1,6 +1,6 @@
 -- Proofs: what a row of entries reports in slot order is lawful. A ghost member cites the last of them, so they stand here. Assumes nothing.
 use Rattle.std.specs.Prelude.{◌≡◌, ℕ, zero, suc, ◌+◌, ◌≤◌, Bool, true, false, cond, T, ◌⊎◌, List, [], ◌∷◌, ◌++◌, length, is_some, Some, None, Option, ◌==◌, refl, Float}
-use Rattle.std.proofs.Common.{sym, ap, subst, ◌∙◌, inl, inr, add-zero, arith, length-append}
+use Rattle.std.proofs.Common.{sym, ap, subst, ◌∙◌, inl, inr, arith, length-append}
 use Rattle.std.proofs.lemmas.List.Sums.{sum_by-cons}
 use Rattle.std.proofs.lemmas.Bool.{eqb-true, eq-eqb}
 use Rattle.geometry.specs.declared.handle.ColliderHandle.{ColliderHandle}
@@ -9,7 +9,7 @@ use Rattle.geometry.specs.Boxes.{loosened_by, meet_of}
 use Rattle.finders.specs.declared.entry.Entry.{Entry}
 use Rattle.finders.specs.declared.slot_table.SlotTable.{SlotTable}
 use Rattle.finders.specs.Members.{In, Distinct}
-use Rattle.finders.specs.Finders.{Held, Meaning, Listing, slot_of, generation_of, collider_of, entry_at, box_in, box_of, held_count, meets}
+use Rattle.finders.specs.Finders.{Held, slot_of, generation_of, collider_of, entry_at, box_in, held_count, meets}
 use Rattle.finders.specs.FinderLaws.{Lists, Lawful}
 use Rattle.finders.specs.Tables.{table_meaning, hit, upward}
 

@@ -1,5 +1,5 @@
 -- Which groups agree. Assumes nothing.
-use Rattle.std.specs.Prelude.{◌≡◌, ℕ, Bool, true, false, cond, not, ◌&&◌, ◌||◌, T, Some, None, Option, ◌==◌, bit_and}
+use Rattle.std.specs.Prelude.{◌≡◌, ℕ, Bool, false, cond, not, ◌&&◌, ◌||◌, T, Some, None, Option, ◌==◌, bit_and}
 use Rattle.geometry.specs.declared.interaction_groups.InteractionTestMode.{InteractionTestMode}
 use Rattle.geometry.specs.declared.interaction_groups.InteractionTestMode.TheVariants.{And, Or}
 use Rattle.geometry.specs.declared.interaction_groups.InteractionGroups.{InteractionGroups}

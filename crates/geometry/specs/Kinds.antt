@@ -1,6 +1,5 @@
 -- The kinds of bodies and shapes, and the numbers that stand for them outside. Assumes nothing.
-use Rattle.std.specs.Prelude.{◌≡◌, ℕ, ◌≤◌, Bool, true, false, cond, Some, None, Option, ◌==◌}
-use Rattle.geometry.specs.declared.interaction_groups.InteractionTestMode.{InteractionTestMode}
+use Rattle.std.specs.Prelude.{◌≡◌, ℕ, Bool, true, false, cond, Some, None, Option, ◌==◌}
 use Rattle.geometry.specs.declared.rigid_body_type.RigidBodyType.{RigidBodyType}
 use Rattle.geometry.specs.declared.rigid_body_type.RigidBodyType.TheVariants.{Dynamic, Fixed, KinematicPositionBased, KinematicVelocityBased}
 use Rattle.geometry.specs.declared.shape_kind.ShapeKind.{ShapeKind}

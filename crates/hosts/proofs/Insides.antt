@@ -1,5 +1,5 @@
 -- Vectors whose three numbers share a bound, and the poses strictly inside a sweep. Assumes nothing.
-use Rattle.std.proofs.Common.{Bool, ◌&&◌, T}
+use Rattle.std.proofs.Common.{◌&&◌, T}
 use lib.Ieee.{Float, binary32, of_bits, fits, neg, le, eq}
 use lib.Ieee.Scale.{finite}
 use Rattle.numbers.specs.Least.{Proper}
@@ -10,10 +10,10 @@ use Rattle.numbers.proofs.Ranges.{both, first_of, second_of}
 use Rattle.geometry.specs.declared.vector.Vector.{Vector}
 use Rattle.geometry.specs.declared.pose.Pose.{Pose}
 use Rattle.geometry.specs.Vectors.{origin, ranged_vector, sum_of, along_of}
-use Rattle.geometry.specs.Poses.{identity, is_identity, ranged_rotation, ranged_pose, placed, InRange}
+use Rattle.geometry.specs.Poses.{identity, is_identity, ranged_rotation, InRange}
 use Rattle.geometry.specs.Boxes.{around_of, finite_vector, FiniteBox}
 use Rattle.hosts.specs.declared.questions.Sweep.{Sweep}
-use Rattle.hosts.specs.Turnless.{admitted, product_of, pose_along, Inside, InsideASweep}
+use Rattle.hosts.specs.Turnless.{admitted, product_of, pose_along, InsideASweep}
 use Rattle.hosts.proofs.Places.{Bounded, one_m, five_m, in_million, in_reach, reach_in_five, child_place, upper_end, lower_end, inside_ranged, inside_reach, inside_product, proper}
 
 -- ---- no turn

@@ -1,7 +1,7 @@
 -- Places up to four million, and what is added to them. Assumes nothing.
-use Rattle.std.proofs.Common.{◌≡◌, ℕ, ◌*◌, ◌^◌, Bool, true, false, cond, ◌&&◌, T, pos, sym, refl, subst, inl, inr, arith}
-use lib.Ieee.{Float, fin, binary32, of_bits, add, sub, neg, fits, le, lt, eq}
-use lib.Ieee.Fits.{add-fits, sub-fits}
+use Rattle.std.proofs.Common.{◌≡◌, ◌*◌, ◌^◌, false, T, pos, sym, refl, subst, inl, inr, arith}
+use lib.Ieee.{Float, fin, binary32, of_bits, add, sub, neg, fits, le, lt}
+use lib.Ieee.Fits.{add-fits}
 use lib.Ieee.Scale.{finite}
 use Rattle.std.specs.Float as Floats
 use Rattle.std.specs.Float.Order.{le_of_lt, le_trans}

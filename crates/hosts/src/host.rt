@@ -33,11 +33,11 @@ pub trait Host {
 
     /// The point, as seen from the pose.
     fn inverse_point(&self, pose: Pose, point: Vector) -> Vector
-        ensures { result ≡ (answers self.now).«inverse_point» pose point };
+        ensures { result ≡ (answers self.now).inverse_point pose point };
 
     /// The second pose, as seen from the first.
     fn relative_pose(&self, first: Pose, second: Pose) -> Pose
-        ensures { result ≡ (answers self.now).«relative_pose» first second };
+        ensures { result ≡ (answers self.now).relative_pose first second };
 
     /// The box of a shape at a pose.
     fn aabb(&self, shape: u32, pose: Pose) -> Aabb
@@ -45,19 +45,19 @@ pub trait Host {
 
     /// The pose at a fraction of a sweep.
     fn pose_at(&self, sweep: Sweep, fraction: f32) -> Pose
-        ensures { result ≡ (answers self.now).«pose_at» sweep fraction };
+        ensures { result ≡ (answers self.now).pose_at sweep fraction };
 
     /// Casts at a target that is one piece.
     fn proxy_cast(&self, query: CastQuery, cap: f32) -> CastOutcome
-        ensures { result ≡ (answers self.now).«proxy_cast» query cap };
+        ensures { result ≡ (answers self.now).proxy_cast query cap };
 
     /// Casts at a target of many pieces.
     fn composite_cast(&self, query: CastQuery, pair: PairKind, cap: f32) -> Option<CastOutcome>
-        ensures { result ≡ (answers self.now).«composite_cast» query pair cap };
+        ensures { result ≡ (answers self.now).composite_cast query pair cap };
 
     /// Casts a turning shape.
     fn turning_cast(&self, query: TurningQuery, pair: PairKind) -> TurningOutcome
-        ensures { result ≡ (answers self.now).«turning_cast» query pair };
+        ensures { result ≡ (answers self.now).turning_cast query pair };
 
     /// Whether the second shape, at a pose as seen from the first, overlaps it.
     fn overlap(&self, relative: Pose, first: u32, second: u32) -> Overlap

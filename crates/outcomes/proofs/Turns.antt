@@ -7,7 +7,7 @@ use Rattle.std.specs.Float.{is_sign_negative}
 use Rattle.std.specs.Bool.{passes, fails}
 use Rattle.std.specs.Float.Order.{le_left, le_right}
 use Rattle.numbers.specs.Constants.{zero_f, one_f}
-use Rattle.numbers.specs.Reals.{is_zero, Same}
+use Rattle.numbers.specs.Reals.{is_zero}
 use Rattle.numbers.proofs.Least.{above_not_zero, above_plain}
 use Rattle.numbers.proofs.Literals.{zero_is}
 use Rattle.numbers.proofs.Order.{not_lt}
@@ -16,9 +16,8 @@ use Rattle.numbers.proofs.Ranges.{both}
 use Rattle.numbers.proofs.Units.{not_same}
 use Rattle.outcomes.specs.declared.pair_kind.PairKind.{PairKind}
 use Rattle.outcomes.specs.declared.pair_kind.PairKind.TheVariants.{Solid, Pseudo}
-use Rattle.outcomes.specs.declared.turning_outcome.TurningOutcome.{TurningOutcome}
 use Rattle.outcomes.specs.declared.turning_outcome.TurningOutcome.TheVariants.{Time, Nothing, Unsupported}
-use Rattle.outcomes.specs.Impacts.{clean, Cap, Timed, quotient, taken_at, taken_if, turned_of, under, TurningLaw, TurnsUnderCaps}
+use Rattle.outcomes.specs.Impacts.{clean, Timed, quotient, taken_at, taken_if, under, TurnsUnderCaps}
 use Rattle.outcomes.proofs.Caps.{strictly_under, upto_under, strictly_is, upto_is, not_left, clean_plain}
 
 -- ---- the cap

@@ -1,5 +1,5 @@
 -- What a pair takes of a cast at a cap, and the cap law. Assumes nothing.
-use Rattle.std.specs.Prelude.{◌≡◌, ℕ, Bool, true, false, cond, not, ◌&&◌, T, Some, None, Option, ◌==◌, is_nan, Float}
+use Rattle.std.specs.Prelude.{◌≡◌, Bool, true, cond, not, ◌&&◌, T, Some, None, Option, ◌==◌, is_nan, Float}
 use Rattle.std.specs.Float.Ieee.{div, eq, lt, le, fits}
 use Rattle.std.specs.Float.Ieee.Scale.{finite}
 use Rattle.std.specs.Float.{is_sign_negative, binary32}

@@ -1,5 +1,5 @@
 -- What a pair takes of its casts at a cap, by the kinds of both shapes. Assumes nothing.
-use Rattle.std.specs.Prelude.{ℕ, cond, List, Some, None, Option, Float}
+use Rattle.std.specs.Prelude.{ℕ, cond, Some, None, Option, Float}
 use Rattle.std.specs.Float.Ieee.{eq}
 use Rattle.numbers.specs.Constants.{zero_f}
 use Rattle.geometry.specs.declared.shape_kind.ShapeKind.{ShapeKind}

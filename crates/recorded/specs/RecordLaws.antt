@@ -5,19 +5,17 @@ use Rattle.std.specs.Float.Ieee.{of_bits, fits, le, lt}
 use Rattle.std.specs.Float.Ieee.Scale.{finite}
 use Rattle.std.proofs.lemmas.Bool.{eqb-false}
 use Rattle.std.specs.Float.{is_sign_negative, binary32}
-use Rattle.std.specs.List.{AllByRecursion, slice_get}
+use Rattle.std.specs.List.{slice_get}
 use Rattle.std.specs.Bool.{passes, fails}
 use Rattle.std.specs.Float.Order.{lt_irrefl, le_of_lt, le_right}
-use Rattle.numbers.specs.Along.{reach}
 use Rattle.numbers.specs.Constants.{zero_f, one_f, million}
 use Rattle.numbers.specs.Reals.{is_zero}
 use Rattle.numbers.proofs.Order.{not_both, finite_between}
 use Rattle.numbers.proofs.Ranges.{both, first_of, second_of}
-use Rattle.geometry.specs.declared.vector.Vector.{Vector}
 use Rattle.geometry.specs.declared.pose.Pose.{Pose}
 use Rattle.geometry.specs.declared.shape_kind.ShapeKind.{ShapeKind}
 use Rattle.geometry.specs.declared.shape_kind.ShapeKind.TheVariants.{Proxy, Compound, TriMesh, Polyline, HeightField, Voxels, Other}
-use Rattle.geometry.specs.Vectors.{origin, ranged_vector, sum_of}
+use Rattle.geometry.specs.Vectors.{origin, ranged_vector}
 use Rattle.geometry.specs.Poses.{is_identity, ranged_pose, InRange}
 use Rattle.geometry.specs.Boxes.{FiniteBox}
 use Rattle.outcomes.specs.declared.cast_outcome.CastOutcome.{CastOutcome}

@@ -61,7 +61,7 @@ pub record Sayings : Type 0 where
   pub row :
       command_of (codes "row 1 2 hit 0.5 - yes")
       ≡ Ok (commands.Row (record { fast = 1; target = 2; cast = casts.Hit half; time = None; overlap = Some true }))
-  pub largest-shape :
+  pub largest_shape :
       command_of (codes "row 4294967295 0 separated 1 0.5 -")
       ≡ Ok (commands.Row (record { fast = 4294967295; target = 0; cast = casts.Separated one; time = Some half; overlap = None }))
   pub no_larger_shape : command_of (codes "row 4294967296 0") ≡ Err NotAShape

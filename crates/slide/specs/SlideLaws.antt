@@ -3,7 +3,6 @@ use Rattle.std.specs.Prelude.{◌≡◌, ℕ, ◌≤◌, Bool, true, false, cond
 use Rattle.std.proofs.Common.{sym, ap, ◌∙◌, subst, arith, ltb-true, lt-ltb}
 use Rattle.std.specs.Float.Ieee.{le, lt}
 use Rattle.std.specs.Float.Ieee.Scale.{finite}
-use Rattle.std.specs.List.{AllByRecursion}
 use Rattle.numbers.specs.Along.{reach}
 use Rattle.numbers.specs.Constants.{zero_f, million}
 use Rattle.numbers.proofs.Ranges.{first_of, second_of}
@@ -17,7 +16,6 @@ use Rattle.geometry.specs.Poses.{is_identity, ranged_pose, InRange}
 use Rattle.geometry.specs.Boxes.{around_of, merged_of, FiniteBox}
 use Rattle.outcomes.specs.declared.pair_kind.PairKind.{PairKind}
 use Rattle.outcomes.specs.declared.pair_kind.PairKind.TheVariants.{Solid, Pseudo}
-use Rattle.outcomes.specs.declared.turning_outcome.TurningOutcome.{TurningOutcome}
 use Rattle.outcomes.specs.declared.turning_outcome.TurningOutcome.TheVariants.{Time, Unsupported}
 use Rattle.outcomes.specs.Impacts.{Timed}
 use Rattle.outcomes.proofs.Turns.{turns_under_caps}

@@ -1,5 +1,5 @@
 -- What each call makes of a store and what it answers, on any content.
-use Rattle.std.specs.Prelude.{ℕ, ◌+◌, min, Bool, cond, ◌&&◌, List, length, replicate, Some, None, Ok, Err, Option, Result, ◌==◌, nat_lt, slice_index_or, slice_set}
+use Rattle.std.specs.Prelude.{ℕ, ◌+◌, min, cond, List, length, replicate, Some, None, Ok, Err, Option, Result, ◌==◌, nat_lt, slice_index_or, slice_set}
 use Rattle.geometry.specs.declared.handle.Handle.{Handle}
 use Rattle.slots.specs.declared.Header.{Header}
 use Rattle.slots.specs.declared.Vacancy.{Vacancy}

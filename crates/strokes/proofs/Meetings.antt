@@ -1,14 +1,11 @@
 -- The time of a meeting is from 0 to 1, neither NaN nor minus zero. Assumes nothing.
-use Rattle.std.proofs.Common.{◌≡◌, ℕ, Bool, true, false, cond, not, ◌&&◌, ◌||◌, T, Some, None, Option, refl, subst, arith}
+use Rattle.std.proofs.Common.{◌≡◌, ℕ, Bool, true, false, cond, ◌&&◌, ◌||◌, T, Some, None, Option, refl, arith}
 use lib.Ieee.{Float, binary32, of_bits, div, lt, le, fits, is_nan}
 use lib.Ieee.Fits.{div-fits}
-use Rattle.std.specs.Float as Floats
 use Rattle.std.specs.Float.{is_sign_negative}
 use Rattle.std.specs.Bool.{passes}
-use Rattle.std.specs.Float.Order.{le_of_lt, le_right, le_refl, lt_of_le_of_lt}
-use Rattle.numbers.specs.Reals.{Number, is_zero}
-use Rattle.numbers.proofs.Least.{above_not_zero}
-use Rattle.numbers.proofs.Literals.{zero_is}
+use Rattle.std.specs.Float.Order.{le_of_lt, le_right, lt_of_le_of_lt}
+use Rattle.numbers.specs.Reals.{Number}
 use Rattle.numbers.proofs.Order.{not_lt}
 use Rattle.geometry.specs.declared.vector.Vector.{Vector}
 use Rattle.geometry.specs.declared.aabb.Aabb.{Aabb}
@@ -18,7 +15,7 @@ use Rattle.outcomes.specs.declared.pair_kind.PairKind.TheVariants.{Solid, Pseudo
 use Rattle.strokes.specs.declared.Crossing.{Crossing}
 use Rattle.outcomes.specs.Impacts.{clean}
 use Rattle.outcomes.proofs.Caps.{clean_above}
-use Rattle.strokes.specs.Strokes.{cross, crossing_of, later_of, entry, too_late, shared_time, joined, axis, meeting_of, counted_for, sooner_of}
+use Rattle.strokes.specs.Strokes.{cross, crossing_of, later_of, entry, too_late, joined, axis, meeting_of, counted_for, sooner_of}
 use Rattle.strokes.specs.Laws.{Timely, Met}
 
 -- ---- the times of one axis are values of single precision

@@ -1,5 +1,5 @@
 -- The laws of meetings and of the casts that are known by them. Assumes nothing.
-use Rattle.std.specs.Prelude.{◌≡◌, T, Some, None, Option, Float}
+use Rattle.std.specs.Prelude.{T, Some, None, Option, Float}
 use Rattle.std.specs.Float.Ieee.{le}
 use Rattle.numbers.specs.Constants.{zero_f, one_f}
 use Rattle.geometry.specs.declared.vector.Vector.{Vector}

@@ -1,6 +1,5 @@
 -- What a finder holds for a body. Assumes nothing.
-use Rattle.std.specs.Prelude.{◌≡◌, ℕ, ◌≤◌, Bool, true, cond, List, [], ◌∷◌, ◌++◌, length, Some, None, Option, Float}
-use Rattle.geometry.specs.declared.handle.RigidBodyHandle.{RigidBodyHandle}
+use Rattle.std.specs.Prelude.{◌≡◌, ℕ, ◌≤◌, true, length, Some, Float}
 use Rattle.geometry.specs.declared.handle.ColliderHandle.{ColliderHandle}
 use Rattle.geometry.specs.declared.aabb.Aabb.{Aabb}
 use Rattle.finders.specs.Finders.{Held, Meaning, box_of}

@@ -1,5 +1,5 @@
 -- What the sweep of a body finds. Assumes nothing.
-use Rattle.std.specs.Prelude.{◌≡◌, ℕ, ◌+◌, ◌-◌, ◌≤◌, Bool, true, false, cond, not, ◌&&◌, T, List, [], ◌∷◌, ◌++◌, map, length, take, drop, Some, None, Option, Float}
+use Rattle.std.specs.Prelude.{◌≡◌, ℕ, ◌+◌, ◌-◌, ◌≤◌, cond, ◌&&◌, List, [], ◌∷◌, ◌++◌, length, take, drop, Some, None, Option, Float}
 use Rattle.std.specs.Float.Ieee.{lt}
 use Rattle.std.specs.List.{ContainsAt as Has}
 use Rattle.numbers.specs.Constants.{one_f}

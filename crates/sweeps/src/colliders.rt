@@ -1,6 +1,6 @@
 //! The colliders of one swept body.
 ghost use Rattle.std.specs.Prelude.{◌≡◌, length, Some as Present};
-ghost use Rattle.records.specs.Lists.{listed as listedHandles};
+ghost use Rattle.records.specs.Lists.{listed as listed_handles};
 ghost use Rattle.pairs.specs.Pairs.{fast_of};
 ghost use Rattle.sweeps.specs.Env.{hall_of};
 ghost use Rattle.sweeps.specs.Sweeps.{sweep_of, swept_box, shape_swept, collider_swept, takes_part, part_by, part_swept, body_swept};
@@ -151,7 +151,7 @@ pub fn sweep_fast_body<'h, H: Host, D: Finder, F: Filter>(
     start: Reached,
     hits: &mut [PseudoHit],
 ) -> Reached
-    ensures { (hits.new, result) ≡ body_swept (hall_of H.Host D.Finder F.Filter hall.now) (length candidates.old) mode owner body.now (hits.old, start) (listedHandles body.now.colliders) }
+    ensures { (hits.new, result) ≡ body_swept (hall_of H.Host D.Finder F.Filter hall.now) (length candidates.old) mode owner body.now (hits.old, start) (listed_handles body.now.colliders) }
 {
     let mut reached = start;
     for handle in body.colliders.as_slice() {

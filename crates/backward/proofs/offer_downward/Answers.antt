@@ -1,4 +1,4 @@
-use Rattle.std.proofs.Common.{◌≡◌, ℕ, suc, ◌-◌, List, sym, ap, ◌∙◌, subst, arith}
+use Rattle.std.proofs.Common.{◌≡◌, ℕ, suc, ◌-◌, List, sym, ap, ◌∙◌, arith}
 use Rattle.geometry.specs.declared.handle.ColliderHandle.{ColliderHandle}
 use Rattle.finders.specs.Finders.{entry_at}
 use Rattle.finders.specs.Tables.{offered, hit}

@@ -1,4 +1,4 @@
-use Rattle.std.proofs.Common.{◌≡◌, ◌+◌, List, drop, ap, ◌∙◌}
+use Rattle.std.proofs.Common.{◌+◌, List, drop, ap, ◌∙◌}
 use Rattle.hosts.proofs.Turns.{turned, ended}
 use Rattle.slots.specs.declared.Slot.{Slot}
 use Rattle.records.specs.declared.rigid_body.RigidBody.{RigidBody}

@@ -1,4 +1,4 @@
-use Rattle.std.proofs.Common.{◌≡◌, ◌+◌, Bool, true, cond, drop, ap, ◌∙◌}
+use Rattle.std.proofs.Common.{◌+◌, Bool, true, cond, drop, ap, ◌∙◌}
 use Rattle.hosts.proofs.Turns.{turned, ended}
 use Rattle.casts.specs.Pieces.{has_proxy}
 use Rattle.hosts.proofs.Blanks.{blank}

@@ -1,4 +1,4 @@
-use Rattle.std.proofs.Common.{◌≡◌, ◌+◌, drop, ap, ◌∙◌}
+use Rattle.std.proofs.Common.{◌+◌, drop, ap, ◌∙◌}
 use Rattle.hosts.proofs.Turns.{turned, ended}
 use Rattle.casts.specs.declared.report.Report.{Report}
 use Rattle.casts.specs.Singles.{cast_children}

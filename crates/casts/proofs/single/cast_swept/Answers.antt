@@ -1,4 +1,4 @@
-use Rattle.std.proofs.Common.{◌≡◌, ap, ◌∙◌}
+use Rattle.std.proofs.Common.{ap, ◌∙◌}
 use Rattle.geometry.specs.declared.pose.Pose.{Pose}
 use Rattle.casts.specs.declared.report.Report.{Report}
 use Rattle.casts.specs.Singles.{cast_kinds, standing}

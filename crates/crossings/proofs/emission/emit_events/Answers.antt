@@ -1,4 +1,4 @@
-use Rattle.std.proofs.Common.{◌≡◌, ℕ, ◌+◌, List, drop, ap, ◌∙◌}
+use Rattle.std.proofs.Common.{ℕ, ◌+◌, List, drop, ap, ◌∙◌}
 use Rattle.hosts.proofs.Turns.{turned, ended}
 use Rattle.sweeps.proofs.Blanks.{blank_hit}
 use Rattle.crossings.specs.declared.event.CollisionEvent.{CollisionEvent}

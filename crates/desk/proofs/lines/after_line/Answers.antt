@@ -1,4 +1,4 @@
-use Rattle.std.proofs.Common.{◌≡◌, ℕ, ◌-◌, ◌<◌, List, length, drop, ap, ◌∙◌, arith, length-drop}
+use Rattle.std.proofs.Common.{◌≡◌, ℕ, ◌<◌, List, length, drop, ap, ◌∙◌, arith, length-drop}
 use Rattle.desk.proofs.lines.after_line.Goals as goal
 
 shorter_by : (bs rest past : List ℕ) (n : ℕ) → past ≡ drop n bs → rest ≡ drop 1 past → 0 < length bs → length rest < length bs

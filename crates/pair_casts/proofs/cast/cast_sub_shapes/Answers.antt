@@ -1,4 +1,4 @@
-use Rattle.std.proofs.Common.{◌≡◌, ◌+◌, drop, Option, ap, ◌∙◌}
+use Rattle.std.proofs.Common.{◌+◌, drop, Option, ap, ◌∙◌}
 use lib.Ieee.{Float}
 use Rattle.hosts.proofs.Turns.{turned, ended}
 use Rattle.search.specs.Searches.{sought}

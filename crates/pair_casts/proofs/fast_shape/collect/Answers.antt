@@ -1,4 +1,4 @@
-use Rattle.std.proofs.Common.{◌≡◌, ◌+◌, drop, ap, ◌∙◌}
+use Rattle.std.proofs.Common.{◌+◌, drop, ap, ◌∙◌}
 use Rattle.hosts.proofs.Turns.{turned, ended}
 use Rattle.hosts.proofs.Blanks.{blank}
 use Rattle.pair_casts.specs.declared.fast_shape.SubShapes.{SubShapes}

@@ -1,4 +1,4 @@
-use Rattle.std.proofs.Common.{◌≡◌, ◌+◌, Bool, ◌&&◌, drop, ap, ◌∙◌}
+use Rattle.std.proofs.Common.{◌+◌, Bool, ◌&&◌, drop, ap, ◌∙◌}
 use Rattle.slide.specs.Slides.{all_fit}
 use Rattle.hosts.proofs.Turns.{turned, ended}
 use Rattle.hosts.proofs.Blanks.{blank}

@@ -1,4 +1,4 @@
-use Rattle.std.proofs.Common.{◌≡◌, ◌+◌, drop, Option, ap, ◌∙◌}
+use Rattle.std.proofs.Common.{◌+◌, drop, Option, ap, ◌∙◌}
 use lib.Ieee.{Float}
 use Rattle.geometry.specs.declared.aabb.Aabb.{Aabb}
 use Rattle.strokes.specs.Strokes.{sooner_of, counted_for, meeting_of}

@@ -1,4 +1,4 @@
-use Rattle.std.proofs.Common.{◌≡◌, ◌+◌, Bool, true, cond, drop, ap, ◌∙◌}
+use Rattle.std.proofs.Common.{◌+◌, Bool, true, cond, drop, ap, ◌∙◌}
 use Rattle.geometry.specs.Boxes.{meet_of}
 use Rattle.slide.specs.Slides.{meets_child}
 use Rattle.hosts.proofs.Turns.{turned, ended}

@@ -1,4 +1,4 @@
-use Rattle.std.proofs.Common.{◌≡◌, ◌+◌, drop, Some, ap, ◌∙◌}
+use Rattle.std.proofs.Common.{◌+◌, drop, Some, ap, ◌∙◌}
 use Rattle.geometry.specs.declared.aabb.Aabb.{Aabb}
 use Rattle.slide.specs.Slides.{union_of, joined_with}
 use Rattle.hosts.proofs.Turns.{turned, ended}

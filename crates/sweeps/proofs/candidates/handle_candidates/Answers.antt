@@ -1,4 +1,4 @@
-use Rattle.std.proofs.Common.{◌≡◌, ◌+◌, drop, ap, ◌∙◌}
+use Rattle.std.proofs.Common.{◌+◌, drop, ap, ◌∙◌}
 use Rattle.hosts.proofs.Turns.{turned, ended}
 use Rattle.records.specs.Lists.{blank_handle}
 use Rattle.pairs.specs.Pairs.{fast_of}

@@ -1,4 +1,4 @@
-use Rattle.std.proofs.Common.{◌≡◌, ℕ, min, length, None, sym, ap, ◌∙◌, arith}
+use Rattle.std.proofs.Common.{◌≡◌, min, length, None, sym, ap, ◌∙◌, arith}
 use lib.ListN.{length-replicate}
 use Rattle.finders.specs.Finders.{Meaning}
 use Rattle.finders.proofs.leaf_table.LeafTable.new.Goals as goal

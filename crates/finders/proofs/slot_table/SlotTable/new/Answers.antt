@@ -1,6 +1,6 @@
-use Rattle.std.proofs.Common.{◌≡◌, ℕ, ◌≤◌, min, None, sym, refl, ap, ◌∙◌, arith}
+use Rattle.std.proofs.Common.{ℕ, ◌≤◌, None, sym, refl, ap, ◌∙◌, arith}
 use Rattle.std.proofs.lemmas.List.{take-replicate}
-use Rattle.finders.specs.Finders.{Meaning, empty, held_count}
+use Rattle.finders.specs.Finders.{empty, held_count}
 use Rattle.finders.proofs.Slots.{count_none}
 use Rattle.finders.proofs.slot_table.SlotTable.new.Goals as goal
 
