@@ -3,12 +3,12 @@ use Rattle.std.proofs.Common.{◌≡◌, ℕ, ◌+◌, ◌<◌, ◌≤◌, Bool,
 use Rattle.std.proofs.lemmas.Bool.{le-leb, cond-true}
 use Rattle.hosts.specs.Hosts.{Answers}
 use Rattle.hosts.proofs.Turns.{turned}
-use Rattle.finders.specs.Finders.{Meaning, cleared}
+use Rattle.finders.specs.Finders.{Meaning}
 use Rattle.slots.specs.declared.Slot.{Slot}
 use Rattle.slots.specs.declared.Slot.TheVariants.{Unused}
 use Rattle.records.specs.declared.rigid_body.RigidBody.{RigidBody}
 use Rattle.records.specs.declared.collider.Collider.{Collider}
-use Rattle.ccd_solver.specs.FixedTargets.{slot_entered, slots_entered, collected}
+use Rattle.ccd_solver.specs.FixedTargets.{slot_entered, slots_entered, all_entered}
 
 module _ (h : Answers) (bs : List (Slot RigidBody)) (cs : List (Slot Collider)) where
   -- a turn, by what was answered of one slot
@@ -18,8 +18,6 @@ module _ (h : Answers) (bs : List (Slot RigidBody)) (cs : List (Slot Collider)) 
       let after : Meaning × Bool → Meaning × Bool = λ p. cond p.1 (slots_entered h bs p.0 (i + 1) (drop (i + 1) cs)) (p.0, false) in
       ap after e ∙ turned (slots_entered h bs m i) cs i Unused l inv
 
-  -- a whole pass over a cleared list
-  pub collected_by : (m n : Meaning) {x : Meaning × Bool} → length cs ≤ 1024 → n ≡ cleared m → x ≡ slots_entered h bs n 0 cs → x ≡ collected h bs cs m
-  collected_by m n l e p =
-      p ∙ (ap (λ (k : Meaning). slots_entered h bs k 0 cs) e
-      ∙ sym (cond-true (leb (length cs) 1024) (slots_entered h bs (cleared m) 0 cs) (cleared m, false) (le-leb (length cs) 1024 l)))
+  -- a whole pass
+  pub all_entered_by : (m : Meaning) {x : Meaning × Bool} → length cs ≤ 1024 → x ≡ slots_entered h bs m 0 cs → x ≡ all_entered h bs cs m
+  all_entered_by m l p = p ∙ sym (cond-true (leb (length cs) 1024) (slots_entered h bs m 0 cs) (m, false) (le-leb (length cs) 1024 l))

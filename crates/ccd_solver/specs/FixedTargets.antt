@@ -29,6 +29,10 @@ abbrev pub slots_entered : Answers → List (Slot RigidBody) → Meaning → ℕ
 slots_entered h bs m i [] = (m, true)
 slots_entered h bs m i (s ∷ ss) = cond (slot_entered h bs m i s).1 (slots_entered h bs (slot_entered h bs m i s).0 (i + 1) ss) ((slot_entered h bs m i s).0, false)
 
+-- the slots of a store, if they are no more than a bench has
+abbrev pub all_entered : Answers → List (Slot RigidBody) → List (Slot Collider) → Meaning → Meaning × Bool
+all_entered h bs cs m = cond (nat_le (length cs) 1024) (slots_entered h bs m 0 cs) (m, false)
+
 -- what the list holds, and whether it holds all that belong there
 abbrev pub collected : Answers → List (Slot RigidBody) → List (Slot Collider) → Meaning → Meaning × Bool
-collected h bs cs m = cond (nat_le (length cs) 1024) (slots_entered h bs (cleared m) 0 cs) (cleared m, false)
+collected h bs cs m = all_entered h bs cs (cleared m)

@@ -1,6 +1,6 @@
 //! The list of the colliders at rest.
 ghost use Rattle.std.specs.Prelude.{◌≡◌};
-ghost use Rattle.ccd_solver.specs.FixedTargets.{is_target, entered, slot_entered, collected};
+ghost use Rattle.ccd_solver.specs.FixedTargets.{is_target, entered, slot_entered, all_entered, collected};
 
 use finders::Finder;
 use geometry::{ColliderHandle, Handle};
@@ -58,6 +58,26 @@ fn enter_slot<H: Host, L: Finder>(
     }
 }
 
+/// Enters all enabled colliders at rest, with their boxes at their own poses; false where they find no room.
+fn enter_all<H: Host, L: Finder>(
+    host: &H,
+    bodies: &[Slot<RigidBody>],
+    colliders: &[Slot<Collider>],
+    list: &mut L,
+) -> bool
+    ensures { (L.meaning list.new, result) ≡ all_entered (H.answers host.now) bodies.now colliders.now (L.meaning list.old) }
+{
+    if colliders.len() > MOST_SLOTS {
+        return false;
+    }
+    for i in 0..colliders.len() {
+        if !enter_slot(host, bodies, i as u32, &colliders[i], list) {
+            return false;
+        }
+    }
+    true
+}
+
 /// Makes the list anew: all enabled colliders at rest, with their boxes at their own poses. It answers false where they find no room.
 pub fn collect_fixed_targets<H: Host, L: Finder>(
     host: &H,
@@ -68,13 +88,5 @@ pub fn collect_fixed_targets<H: Host, L: Finder>(
     ensures { (L.meaning list.new, result) ≡ collected (H.answers host.now) bodies.now colliders.now (L.meaning list.old) }
 {
     list.clear();
-    if colliders.len() > MOST_SLOTS {
-        return false;
-    }
-    for i in 0..colliders.len() {
-        if !enter_slot(host, bodies, i as u32, &colliders[i], list) {
-            return false;
-        }
-    }
-    true
+    enter_all(host, bodies, colliders, list)
 }

@@ -1,6 +1,6 @@
 use Rattle.std.proofs.Common.{◌≡◌, drop}
 use Rattle.ccd_solver.specs.FixedTargets.{slots_entered}
-use Rattle.ccd_solver.proofs.fixed_targets.collect_fixed_targets.Given as goal
+use Rattle.ccd_solver.proofs.fixed_targets.enter_all.Given as goal
 
 abbrev pub invariant-loop-i : goal.invariant-loop-i
 invariant-loop-i g l =

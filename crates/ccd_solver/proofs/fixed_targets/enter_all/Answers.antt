@@ -1,8 +1,8 @@
 use Rattle.std.proofs.Common.{true, false}
 use Rattle.hosts.proofs.Turns.{ended}
 use Rattle.ccd_solver.specs.FixedTargets.{slots_entered}
-use Rattle.ccd_solver.proofs.Entries.{slot_turn, collected_by}
-use Rattle.ccd_solver.proofs.fixed_targets.collect_fixed_targets.Goals as goal
+use Rattle.ccd_solver.proofs.Entries.{slot_turn, all_entered_by}
+use Rattle.ccd_solver.proofs.fixed_targets.enter_all.Goals as goal
 
 pub returns-then-not-enter_slot : goal.returns-then-not-enter_slot
 returns-then-not-enter_slot g c =
@@ -10,7 +10,7 @@ returns-then-not-enter_slot g c =
     let bs = c.args.bodies.now in
     let cs = c.args.colliders.now in
     let meaning = g.L.Finder.meaning in
-    collected_by h bs cs (meaning c.args.list.now) (meaning c.clear.new.self) c.if-colliders-gt-MOST_SLOTS.false c.clear.ensures
+    all_entered_by h bs cs (meaning c.args.list.now) c.if-colliders-gt-MOST_SLOTS.false
     (slot_turn h bs cs c.loop-i.i (meaning c.loop-i.list) (meaning c.enter_slot.new.list) false c.loop-i-test.true c.if-not-enter_slot.ensures c.loop-i.invariant)
 
 pub loop-i-preserved : goal.loop-i-preserved
@@ -24,5 +24,5 @@ returns g c =
     let bs = c.args.bodies.now in
     let cs = c.args.colliders.now in
     let meaning = g.L.Finder.meaning in
-    collected_by h bs cs (meaning c.args.list.now) (meaning c.clear.new.self) c.if-colliders-gt-MOST_SLOTS.false c.clear.ensures
+    all_entered_by h bs cs (meaning c.args.list.now) c.if-colliders-gt-MOST_SLOTS.false
     (ended (slots_entered h bs (meaning c.loop-i.list) c.loop-i.i) cs c.loop-i.i c.loop-i-test.false c.loop-i.invariant)
