@@ -10,10 +10,10 @@ use slots::{Slot, get, replace};
 use sweeps::BodyContinuousResult;
 
 /// Whether a body stops before its next position.
-pub fn is_clamped(res: BodyContinuousResult) -> bool
-    ensures { result ≡ below res }
+pub fn is_clamped(swept: BodyContinuousResult) -> bool
+    ensures { result ≡ below swept }
 {
-    res.fraction < 1.0
+    swept.fraction < 1.0
 }
 
 /// The body, with the pose at a fraction of its way as its next position.
@@ -31,17 +31,17 @@ fn stopped_at<H: Host>(host: &H, body: &RigidBody, fraction: f32) -> RigidBody
 }
 
 /// Stops one body, if it is to stop.
-fn clamp<H: Host>(host: &H, bodies: &mut [Slot<RigidBody>], res: BodyContinuousResult)
-    ensures { bodies.new ≡ clamped_one (H.answers host.now) bodies.old res }
+fn clamp<H: Host>(host: &H, bodies: &mut [Slot<RigidBody>], swept: BodyContinuousResult)
+    ensures { bodies.new ≡ clamped_one (H.answers host.now) bodies.old swept }
 {
-    if !is_clamped(res) {
+    if !is_clamped(swept) {
         return;
     }
-    let Some(body) = get(bodies, res.handle.0) else {
+    let Some(body) = get(bodies, swept.handle.0) else {
         return;
     };
-    let stopped = stopped_at(host, body, res.fraction);
-    let _ = replace(bodies, res.handle.0, stopped);
+    let stopped = stopped_at(host, body, swept.fraction);
+    let _ = replace(bodies, swept.handle.0, stopped);
 }
 
 /// Stops each body whose fraction is below 1 at the pose of that fraction. Only next positions change.
