@@ -1,14 +1,13 @@
 -- What a flight finds, of every lawful host. Assumes nothing.
-use Rattle.std.proofs.Common.{◌≡◌, ℕ, suc, ◌≤◌, Bool, true, false, cond, ◌&&◌, T, List, [], ◌∷◌, length, Some, None, Err, MatchBool, Option, sym, refl, ap, ◌∙◌, subst, inl, inr, arith}
+use Rattle.std.proofs.Common.{◌≡◌, ℕ, Bool, true, false, cond, ◌&&◌, T, List, [], ◌∷◌, Some, None, Err, MatchBool, Option, sym, refl, ap, ◌∙◌, subst, inl, inr, arith}
 use lib.Ieee.{Float, binary32, of_bits, fits, lt, le}
 use lib.Ieee.Scale.{finite}
-use Rattle.std.specs.List.{best_of, AllByRecursion}
+use Rattle.std.specs.List.{best_of, cons_option, AllByRecursion}
 use Rattle.std.specs.Bool.{passes}
 use Rattle.numbers.specs.Constants.{zero_f, one_f, million}
 use Rattle.numbers.specs.Least.{least}
 use Rattle.numbers.proofs.Ranges.{first_of, second_of}
 use Rattle.geometry.specs.declared.pose.Pose.{Pose}
-use Rattle.geometry.specs.declared.shape_kind.ShapeKind as Kinds
 use Rattle.geometry.specs.declared.shape_kind.ShapeKind.{ShapeKind}
 use Rattle.geometry.specs.Poses.{ranged_pose, InRange}
 use Rattle.outcomes.specs.declared.pair_kind.PairKind.{PairKind}
@@ -17,21 +16,20 @@ use Rattle.outcomes.specs.declared.cast_outcome.CastOutcome.{CastOutcome}
 use Rattle.outcomes.specs.Outcomes.{fraction_of}
 use Rattle.outcomes.specs.Impacts.{clean, turned_of, quotient, taken_if, strictly}
 use Rattle.outcomes.proofs.Caps.{cap_one, strictly_is, clean_fits}
-use Rattle.hosts.specs.declared.questions.Child.{Child}
 use Rattle.hosts.specs.declared.questions.Sweep.{Sweep}
 use Rattle.hosts.specs.declared.questions.CastQuery.{CastQuery}
 use Rattle.hosts.specs.Hosts.{Answers}
 use Rattle.hosts.specs.HostLaws.{Lawful, Inner, SweepAdmitted}
 use Rattle.casts.specs.declared.flight.Flight.{Flight}
-use Rattle.casts.specs.declared.flight.CastRefusal.TheVariants.{NumberOutOfRange, PoseNotAdmitted}
+use Rattle.casts.specs.declared.refusal.CastRefusal.TheVariants.{NumberOutOfRange, PoseNotAdmitted}
 use Rattle.casts.specs.declared.pieces.TargetKind.{TargetKind}
 use Rattle.casts.specs.declared.pieces.TargetKind.TheVariants.{Proxy, Composite, Turning}
-use Rattle.casts.specs.declared.report.Report.{Report}
-use Rattle.casts.specs.Flights.{ranged_flight, admitted_flight, sweep_of, both_known}
-use Rattle.casts.specs.Pieces.{is_proxy, swept_by, target_kind_of, child_sweep, cast_at}
-use Rattle.casts.specs.Reports.{empty_report, took_of}
-use Rattle.casts.specs.Singles.{query_of, piece_cast, cast_turning, turning_query, turning_answer, cast_pieces, turns, cast_kinds, settled_by, settled, standing, cast_swept, flown_by, flown, child_pieces, pieces_of, found, impacts_of, ByPieces, ByTurning, Found, Flown}
-use Rattle.casts.proofs.Searches.{children_all, by_pieces}
+use Rattle.casts.specs.declared.report.Casts.{Casts}
+use Rattle.casts.specs.declared.report.Casts.TheVariants as casts
+use Rattle.casts.specs.Flights.{ranged_flight, admitted_flight, sweep_of, query_of, turning_query, both_known}
+use Rattle.casts.specs.Pieces.{swept_by, target_kind_of, cast_at}
+use Rattle.casts.specs.Reports.{took_of, impact_of}
+use Rattle.casts.specs.Singles.{piece_cast, casts_of_pieces, pieces_of, turning_answer, turns, settled_by, reported, flown_by, flown, impacts_of, ByPieces, ByTurning, Found, Flown}
 
 -- ---- a solid impact lies strictly inside the sweep
 
@@ -62,7 +60,7 @@ module _ (h : Answers) (L : Lawful h) where
         took_inner (piece_cast h f t p.0 p.1) (λ c k. cast_clean (query_of f p.0 p.1) t f.pair c k) s
         (ap (λ (x : PairKind). took_of x (piece_cast h f t p.0 p.1)) (sym solid) ∙ e)
 
-    found_inner : (o : Option Float) (is : List Float) → ((s : Float) → o ≡ Some s → Inner s) → AllByRecursion Inner is → AllByRecursion Inner (found o is)
+    found_inner : (o : Option Float) (is : List Float) → ((s : Float) → o ≡ Some s → Inner s) → AllByRecursion Inner is → AllByRecursion Inner (cons_option o is)
     found_inner None is k a = a
     found_inner (Some i) is k a = (k i refl, a)
 
@@ -93,50 +91,20 @@ module _ (h : Answers) (L : Lawful h) where
       solid_lies None s e = let z : ◌≡◌ {A = ℕ} 0 1 = cc in absurd (omega arith)
       solid_lies (Some q) s e = let i = strictly_is q one_f s e in (i.0, i.1)
 
-  -- ---- few pieces
-
-  pieces_by : (c : Child) (w : Sweep) (ps : List (ℕ × Sweep)) (n : ℕ) (b : Bool) → length ps ≤ n → length (cond b ((c.shape, child_sweep h w c) ∷ ps) ps) ≤ suc n
-  pieces_by c w ps n true l = omega arith
-  pieces_by c w ps n false l = omega arith
-
-  pieces_few : (w : Sweep) (cs : List Child) → length (child_pieces h w cs) ≤ length cs
-  pieces_few w [] = omega arith
-  pieces_few w (c ∷ cs) = pieces_by c w (child_pieces h w cs) (length cs) (is_proxy (h.kind c.shape)) (pieces_few w cs)
-
   -- ---- what is found of a shape that is swept
 
   module _ (f : Flight) (t : TargetKind) where
-    -- the place alone is set later
-    stood : (ps : List (ℕ × Sweep)) (r : Report) → ByPieces h f t ps r → ByPieces h f t ps (standing h f r)
-    stood ps r b = record { all_cast = b.all_cast; in_order = b.in_order; least_impact = b.least_impact }
+    -- the casts of a shape that is swept: one turning cast, or one of each piece
+    abbrev cast_by : List (ℕ × Sweep) → Bool → Casts
+    cast_by ps b = cond b (casts.Turning (turning_answer h f)) (casts.Pieces (record { items = casts_of_pieces h f t ps }))
 
-    pieces_found : (a : ShapeKind) → h.kind f.fast ≡ Some a → ByPieces h f t (pieces_of h a f.fast (sweep_of f)) (cast_pieces h f a t (empty_report f.end))
-    pieces_found Kinds.TheVariants.Proxy e = by_pieces h f t (empty_report f.end) ((f.fast, sweep_of f) ∷ []) refl (omega arith)
-    pieces_found Kinds.TheVariants.Compound e =
-        let cs = h.children f.fast in
-        let few = L.few f.fast e in
-        let short = pieces_few (sweep_of f) cs in
-        subst (ByPieces h f t (child_pieces h (sweep_of f) cs)) (sym (children_all h f t (empty_report f.end) cs))
-        (by_pieces h f t (empty_report f.end) (child_pieces h (sweep_of f) cs) refl (omega (arith, few.1)))
-    pieces_found Kinds.TheVariants.TriMesh e = by_pieces h f t (empty_report f.end) [] refl (omega arith)
-    pieces_found Kinds.TheVariants.Polyline e = by_pieces h f t (empty_report f.end) [] refl (omega arith)
-    pieces_found Kinds.TheVariants.HeightField e = by_pieces h f t (empty_report f.end) [] refl (omega arith)
-    pieces_found Kinds.TheVariants.Voxels e = by_pieces h f t (empty_report f.end) [] refl (omega arith)
-    pieces_found Kinds.TheVariants.Other e = by_pieces h f t (empty_report f.end) [] refl (omega arith)
+    found_by : (ps : List (ℕ × Sweep)) (b : Bool) → MatchBool b (ByTurning h f (reported h f (cast_by ps b))) (ByPieces h f t ps (reported h f (cast_by ps b)))
+    found_by ps true = record { one_cast = refl; its_impact = refl }
+    found_by ps false = record { all_cast = refl; least_impact = refl }
 
-    abbrev kept : ShapeKind → Bool → Report
-    kept a b = cond b (cast_turning h f (empty_report f.end)) (cast_pieces h f a t (empty_report f.end))
-
-    kinds_found : (a : ShapeKind) → h.kind f.fast ≡ Some a → (b : Bool) → MatchBool b (ByTurning h f (standing h f (kept a b))) (ByPieces h f t (pieces_of h a f.fast (sweep_of f)) (standing h f (kept a b)))
-    kinds_found a e true = record { one_cast = refl; its_impact = refl }
-    kinds_found a e false = stood (pieces_of h a f.fast (sweep_of f)) (cast_pieces h f a t (empty_report f.end)) (pieces_found a e)
-
-    impact_inner : (a : ShapeKind) → h.kind f.fast ≡ Some a → (b : Bool) (s : Float) → f.pair ≡ Solid → (kept a b).impact ≡ Some s → Inner s
-    impact_inner a e true s p i = turned_inner f s p i
-    impact_inner a e false s p i = least_inner (impacts_of h f t ps) s (all_inner f t p ps) (sym (pieces_found a e).least_impact ∙ i)
-      where
-        ps : List (ℕ × Sweep)
-        ps = pieces_of h a f.fast (sweep_of f)
+    impact_inner : (ps : List (ℕ × Sweep)) (b : Bool) (s : Float) → f.pair ≡ Solid → impact_of f.pair (cast_by ps b) ≡ Some s → Inner s
+    impact_inner ps true s p i = turned_inner f s p i
+    impact_inner ps false s p i = least_inner (impacts_of h f t ps) s (all_inner f t p ps) i
 
   -- ---- where the shape then stands
 
@@ -173,34 +141,37 @@ module _ (h : Answers) (L : Lawful h) where
     free_by Solid = refl
     free_by Pseudo = refl
 
+    never_impact : (p : PairKind) (i : Option Float) → i ≡ None → settled_by h f p i ≡ f.end
+    never_impact p i e = ap (settled_by h f p) e ∙ free_by p
+
+    pseudo_free : (p : PairKind) (i : Option Float) → p ≡ Pseudo → settled_by h f p i ≡ f.end
+    pseudo_free p i e = ap (λ (x : PairKind). settled_by h f x i) e
+
     -- ---- all of it
 
-    never : (a b : ShapeKind) → ranged_flight f ≡ true → admitted_flight h f ≡ true → swept_by h f.fast a ≡ false → Found h f a b (empty_report f.end)
-    never a b R A e = record {
-      never_swept = λ _. refl;
-      swept = λ k. (let z : ◌≡◌ {A = Bool} true false = sym k ∙ e in let y : ◌≡◌ {A = ℕ} 0 1 = cc in absurd (omega arith));
-      stopped = λ t p k. (let z : ◌≡◌ {A = ℕ} 0 1 = cc in absurd (omega arith));
-      not_stopped = λ _. refl;
-      noted_only = λ _. refl;
-      in_reach = end_reached R A;
-    }
-
-    swept_found : (a b : ShapeKind) → ranged_flight f ≡ true → admitted_flight h f ≡ true → h.kind f.fast ≡ Some a → swept_by h f.fast a ≡ true → Found h f a b (cast_swept h f a (target_kind_of b))
-    swept_found a b R A k e =
-        let t = target_kind_of b in
-        let r = cast_kinds h f a t (empty_report f.end) in
-        record {
-          never_swept = λ n. (let z : ◌≡◌ {A = Bool} true false = sym e ∙ n in let y : ◌≡◌ {A = ℕ} 0 1 = cc in absurd (omega arith));
-          swept = λ _. kinds_found f t a k (turns a t);
-          stopped = λ s p i. stopped_by f.pair r.impact s p i;
-          not_stopped = λ i. ap (settled h f) i ∙ free_by f.pair;
-          noted_only = λ p. ap (λ (x : PairKind). settled_by h f x r.impact) p;
-          in_reach = settled_reached R A f.pair r.impact (λ s p i. impact_inner f t a k (turns a t) s p i);
-        }
-
-    reported_found : (a b : ShapeKind) → ranged_flight f ≡ true → admitted_flight h f ≡ true → h.kind f.fast ≡ Some a → (s : Bool) → swept_by h f.fast a ≡ s → Found h f a b (cond s (cast_swept h f a (target_kind_of b)) (empty_report f.end))
-    reported_found a b R A k true e = swept_found a b R A k e
-    reported_found a b R A k false e = never a b R A e
+    module _ (R : ranged_flight f ≡ true) (A : admitted_flight h f ≡ true) where
+      reported_found : (a b : ShapeKind) (s : Bool) → swept_by h f.fast a ≡ s
+          → Found h f a b (reported h f (cond s (cast_by f (target_kind_of b) (pieces_of h a f.fast (sweep_of f)) (turns a (target_kind_of b))) casts.NeverSwept))
+      reported_found a b true e =
+          let ps = pieces_of h a f.fast (sweep_of f) in
+          let t = target_kind_of b in
+          let i = impact_of f.pair (cast_by f t ps (turns a t)) in
+          record {
+            never_swept = λ n. (let z : ◌≡◌ {A = Bool} true false = sym e ∙ n in cc);
+            swept = λ _. found_by f t ps (turns a t);
+            stopped = λ s p k. stopped_by f.pair i s p k;
+            not_stopped = λ k. never_impact f.pair i k;
+            noted_only = λ p. pseudo_free f.pair i p;
+            in_reach = settled_reached R A f.pair i (λ s p k. impact_inner f t ps (turns a t) s p k);
+          }
+      reported_found a b false e = record {
+        never_swept = λ _. ap (λ (p : Pose). record { casts = casts.NeverSwept; impact = None; stands = p }) (free_by f.pair);
+        swept = λ k. (let z : ◌≡◌ {A = Bool} true false = sym k ∙ e in cc);
+        stopped = λ t p k. (let z : ◌≡◌ {A = Option Float} None (Some t) = k in cc);
+        not_stopped = λ _. free_by f.pair;
+        noted_only = λ _. free_by f.pair;
+        in_reach = settled_reached R A f.pair None (λ s p k. (let z : ◌≡◌ {A = Option Float} None (Some s) = k in cc));
+      }
 
     flown_by_lem : (r a : Bool) → ranged_flight f ≡ r → admitted_flight h f ≡ a → (x y : Option ShapeKind) → h.kind f.fast ≡ x → h.kind f.target ≡ y
         → Flown h f (flown_by h f (cond r (cond a (both_known x y) (Err PoseNotAdmitted)) (Err NumberOutOfRange)))
@@ -208,7 +179,7 @@ module _ (h : Answers) (L : Lawful h) where
     flown_by_lem true false R A x y k l = (R, A)
     flown_by_lem true true R A None y k l = (R, A, inl k)
     flown_by_lem true true R A (Some x) None k l = (R, A, inr l)
-    flown_by_lem true true R A (Some x) (Some y) k l = (x, y, k, l, reported_found x y R A k (swept_by h f.fast x) refl)
+    flown_by_lem true true R A (Some x) (Some y) k l = (x, y, k, l, reported_found R A x y (swept_by h f.fast x) refl)
 
     pub flown_law : Flown h f (flown h f)
     flown_law = flown_by_lem (ranged_flight f) (admitted_flight h f) refl refl (h.kind f.fast) (h.kind f.target) refl refl

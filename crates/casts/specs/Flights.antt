@@ -1,20 +1,17 @@
--- A single check, and why it is refused. Assumes nothing.
+-- A single check, what it asks, and why it is refused. Assumes nothing.
 use Rattle.std.specs.Prelude.{ℕ, Bool, cond, ◌&&◌, Some, None, Ok, Err, Option, Result}
-use Rattle.numbers.specs.Constants.{million}
+use Rattle.numbers.specs.Constants.{zero_f, one_f, million}
 use Rattle.geometry.specs.declared.shape_kind.ShapeKind.{ShapeKind}
 use Rattle.geometry.specs.Vectors.{origin, difference_of}
 use Rattle.geometry.specs.Poses.{ranged_pose}
 use Rattle.hosts.specs.declared.questions.Sweep.{Sweep}
 use Rattle.hosts.specs.declared.questions.Motion.{Motion}
+use Rattle.hosts.specs.declared.questions.CastQuery.{CastQuery}
+use Rattle.hosts.specs.declared.questions.TurningQuery.{TurningQuery}
 use Rattle.hosts.specs.Hosts.{Answers}
 use Rattle.casts.specs.declared.flight.Flight.{Flight}
-use Rattle.casts.specs.declared.flight.CastRefusal.{CastRefusal}
-use Rattle.casts.specs.declared.flight.CastRefusal.TheVariants.{NumberOutOfRange, PoseNotAdmitted, ShapeUnknown}
-
-abbrev pub refusal_number : CastRefusal → ℕ
-refusal_number NumberOutOfRange = 1
-refusal_number PoseNotAdmitted = 1
-refusal_number ShapeUnknown = 3
+use Rattle.casts.specs.declared.refusal.CastRefusal.{CastRefusal}
+use Rattle.casts.specs.declared.refusal.CastRefusal.TheVariants.{NumberOutOfRange, PoseNotAdmitted, ShapeUnknown}
 
 abbrev pub ranged_flight : Flight → Bool
 ranged_flight f = ranged_pose million f.start && (ranged_pose million f.end && ranged_pose million f.pose)
@@ -28,6 +25,13 @@ sweep_of f = record { start = f.start; end = f.end; centre = origin }
 -- the stroke as the velocity, for one time unit, without a turn
 abbrev pub motion_of : Flight → Motion
 motion_of f = record { start = f.start; centre = origin; linear = difference_of f.end.translation f.start.translation; angular = origin }
+
+-- the question for one piece, which sweeps along its own way
+abbrev pub query_of : Flight → ℕ → Sweep → CastQuery
+query_of f s w = record { fast = s; sweep = w; target = f.target; pose = f.pose; slop = zero_f }
+
+abbrev pub turning_query : Flight → TurningQuery
+turning_query f = record { fast = f.fast; motion = motion_of f; target = f.target; pose = f.pose; dt = one_f }
 
 abbrev pub both_known : Option ShapeKind → Option ShapeKind → Result (ShapeKind × ShapeKind) CastRefusal
 both_known None b = Err ShapeUnknown

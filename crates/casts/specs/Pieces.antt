@@ -1,5 +1,6 @@
 -- Which shapes are swept, in which pieces, and which cast a target takes. Assumes nothing.
-use Rattle.std.specs.Prelude.{ℕ, Bool, true, false, cond, List, [], ◌∷◌, Some, None, Option, Float}
+use Rattle.std.specs.Prelude.{ℕ, Bool, true, false, List, Some, None, Option, Float}
+use Rattle.std.specs.List.{list_any}
 use Rattle.geometry.specs.declared.shape_kind.ShapeKind as Kinds
 use Rattle.geometry.specs.declared.shape_kind.ShapeKind.{ShapeKind}
 use Rattle.outcomes.specs.declared.pair_kind.PairKind.{PairKind}
@@ -11,20 +12,14 @@ use Rattle.hosts.specs.Hosts.{Answers}
 use Rattle.casts.specs.declared.pieces.TargetKind.{TargetKind}
 use Rattle.casts.specs.declared.pieces.TargetKind.TheVariants.{Proxy, Composite, Turning}
 
+-- a known shape that is one piece
 abbrev pub is_proxy : Option ShapeKind → Bool
-is_proxy None = false
 is_proxy (Some Kinds.TheVariants.Proxy) = true
-is_proxy (Some Kinds.TheVariants.Compound) = false
-is_proxy (Some Kinds.TheVariants.TriMesh) = false
-is_proxy (Some Kinds.TheVariants.Polyline) = false
-is_proxy (Some Kinds.TheVariants.HeightField) = false
-is_proxy (Some Kinds.TheVariants.Voxels) = false
-is_proxy (Some Kinds.TheVariants.Other) = false
+is_proxy _ = false
 
 -- some child is a piece
 abbrev pub has_proxy : Answers → List Child → Bool
-has_proxy h [] = false
-has_proxy h (c ∷ cs) = cond (is_proxy (h.kind c.shape)) true (has_proxy h cs)
+has_proxy h cs = list_any (λ c. is_proxy (h.kind c.shape)) cs
 
 -- swept as the moving shape: a piece, a Compound with a piece, or what only a turning cast can judge
 abbrev pub swept_by : Answers → ℕ → ShapeKind → Bool

@@ -1,6 +1,7 @@
 -- What a flight answers. Assumes nothing.
-use Rattle.std.specs.Prelude.{◌≡◌, ℕ, ◌<◌, Bool, true, false, cond, T, ◌⊎◌, List, [], ◌∷◌, length, Some, None, Ok, Err, MatchBool, Option, Result, slice_index_or, Float}
-use Rattle.numbers.specs.Constants.{zero_f, one_f}
+use Rattle.std.specs.Prelude.{◌≡◌, ℕ, Bool, true, false, cond, T, ◌⊎◌, List, [], ◌∷◌, map, filter, Some, None, Ok, Err, MatchBool, Option, Result, Float}
+use Rattle.std.specs.List.{filter_map}
+use Rattle.numbers.specs.Constants.{one_f}
 use Rattle.numbers.specs.Least.{least}
 use Rattle.geometry.specs.declared.pose.Pose.{Pose}
 use Rattle.geometry.specs.declared.shape_kind.ShapeKind as Kinds
@@ -9,59 +10,47 @@ use Rattle.geometry.specs.Poses.{InRange}
 use Rattle.outcomes.specs.declared.pair_kind.PairKind.{PairKind}
 use Rattle.outcomes.specs.declared.pair_kind.PairKind.TheVariants.{Solid, Pseudo}
 use Rattle.outcomes.specs.declared.cast_outcome.CastOutcome.{CastOutcome}
-use Rattle.outcomes.specs.declared.turning_outcome.TurningOutcome.{TurningOutcome}
+use Rattle.outcomes.specs.Outcomes.{TurningOutcome}
 use Rattle.outcomes.specs.Impacts.{turned_of}
 use Rattle.hosts.specs.declared.questions.Child.{Child}
 use Rattle.hosts.specs.declared.questions.Sweep.{Sweep}
-use Rattle.hosts.specs.declared.questions.CastQuery.{CastQuery}
-use Rattle.hosts.specs.declared.questions.TurningQuery.{TurningQuery}
 use Rattle.hosts.specs.Hosts.{Answers}
 use Rattle.casts.specs.declared.flight.Flight.{Flight}
-use Rattle.casts.specs.declared.flight.CastRefusal.{CastRefusal}
-use Rattle.casts.specs.declared.flight.CastRefusal.TheVariants.{NumberOutOfRange, PoseNotAdmitted, ShapeUnknown}
+use Rattle.casts.specs.declared.refusal.CastRefusal.{CastRefusal}
+use Rattle.casts.specs.declared.refusal.CastRefusal.TheVariants.{NumberOutOfRange, PoseNotAdmitted, ShapeUnknown}
 use Rattle.casts.specs.declared.pieces.TargetKind.{TargetKind}
+use Rattle.casts.specs.declared.report.Casts.{Casts}
+use Rattle.casts.specs.declared.report.Casts.TheVariants as casts
 use Rattle.casts.specs.declared.report.Report.{Report}
-use Rattle.casts.specs.Flights.{ranged_flight, admitted_flight, sweep_of, motion_of, checked}
+use Rattle.casts.specs.Flights.{ranged_flight, admitted_flight, sweep_of, query_of, turning_query, checked}
 use Rattle.casts.specs.Pieces.{is_proxy, is_turning, swept_by, target_kind_of, child_sweep, cast_at}
-use Rattle.casts.specs.Reports.{empty_report, noted, took_of}
+use Rattle.casts.specs.Reports.{took_of, impact_of}
 
--- ---- the steps of a check
-
-abbrev pub query_of : Flight → ℕ → Sweep → CastQuery
-query_of f s w = record { fast = s; sweep = w; target = f.target; pose = f.pose; slop = zero_f }
+-- ---- the casts
 
 -- the cast of one piece, at the cap 1
 abbrev pub piece_cast : Answers → Flight → TargetKind → ℕ → Sweep → Option CastOutcome
 piece_cast h f t s w = cast_at h (query_of f s w) t f.pair one_f
 
-abbrev pub cast_piece : Answers → Flight → TargetKind → Report → ℕ → Sweep → Report
-cast_piece h f t r s w = noted f.pair r (piece_cast h f t s w)
+-- the pieces of a fast shape, with their ways: the shape itself, or the children of a Compound that are pieces
+abbrev pub child_pieces : Answers → Sweep → List Child → List (ℕ × Sweep)
+child_pieces h w cs = map (λ (c : Child). (c.shape, child_sweep h w c)) (filter (λ (c : Child). is_proxy (h.kind c.shape)) cs)
 
-abbrev pub cast_child : Answers → Flight → TargetKind → Report → Child → Report
-cast_child h f t r c = cond (is_proxy (h.kind c.shape)) (cast_piece h f t r c.shape (child_sweep h (sweep_of f) c)) r
+abbrev pub pieces_of : Answers → ShapeKind → ℕ → Sweep → List (ℕ × Sweep)
+pieces_of h Kinds.TheVariants.Proxy s w = (s, w) ∷ []
+pieces_of h Kinds.TheVariants.Compound s w = child_pieces h w (h.children s)
+pieces_of h Kinds.TheVariants.TriMesh s w = []
+pieces_of h Kinds.TheVariants.Polyline s w = []
+pieces_of h Kinds.TheVariants.HeightField s w = []
+pieces_of h Kinds.TheVariants.Voxels s w = []
+pieces_of h Kinds.TheVariants.Other s w = []
 
-abbrev pub cast_children : Answers → Flight → TargetKind → Report → List Child → Report
-cast_children h f t r [] = r
-cast_children h f t r (c ∷ cs) = cast_children h f t (cast_child h f t r c) cs
-
-abbrev pub turning_query : Flight → TurningQuery
-turning_query f = record { fast = f.fast; motion = motion_of f; target = f.target; pose = f.pose; dt = one_f }
+-- the casts of the pieces, in order
+abbrev pub casts_of_pieces : Answers → Flight → TargetKind → List (ℕ × Sweep) → List (Option CastOutcome)
+casts_of_pieces h f t ps = map (λ (p : ℕ × Sweep). piece_cast h f t p.0 p.1) ps
 
 abbrev pub turning_answer : Answers → Flight → TurningOutcome
 turning_answer h f = h.turning_cast (turning_query f) f.pair
-
-abbrev pub cast_turning : Answers → Flight → Report → Report
-cast_turning h f r = record { pieces = r.pieces; count = r.count; turning = Some (turning_answer h f); impact = turned_of f.pair (turning_answer h f) one_f one_f; stands = r.stands }
-
--- the casts of a shape that is swept piece by piece
-abbrev pub cast_pieces : Answers → Flight → ShapeKind → TargetKind → Report → Report
-cast_pieces h f Kinds.TheVariants.Proxy t r = cast_piece h f t r f.fast (sweep_of f)
-cast_pieces h f Kinds.TheVariants.Compound t r = cast_children h f t r (h.children f.fast)
-cast_pieces h f Kinds.TheVariants.TriMesh t r = r
-cast_pieces h f Kinds.TheVariants.Polyline t r = r
-cast_pieces h f Kinds.TheVariants.HeightField t r = r
-cast_pieces h f Kinds.TheVariants.Voxels t r = r
-cast_pieces h f Kinds.TheVariants.Other t r = r
 
 -- a pair gets one turning cast of the whole where the fast shape is of the kind Other, or the target takes no casts of pieces
 abbrev pub turns : ShapeKind → TargetKind → Bool
@@ -73,8 +62,14 @@ turns Kinds.TheVariants.HeightField t = is_turning t
 turns Kinds.TheVariants.Voxels t = is_turning t
 turns Kinds.TheVariants.Other t = true
 
-abbrev pub cast_kinds : Answers → Flight → ShapeKind → TargetKind → Report → Report
-cast_kinds h f a t r = cond (turns a t) (cast_turning h f r) (cast_pieces h f a t r)
+-- the casts that a pair gets, by the kinds of both shapes
+abbrev pub casts_of : Answers → Flight → ShapeKind → TargetKind → Casts
+casts_of h f a t =
+    cond (swept_by h f.fast a)
+    (cond (turns a t) (casts.Turning (turning_answer h f)) (casts.Pieces (record { items = casts_of_pieces h f t (pieces_of h a f.fast (sweep_of f)) })))
+    casts.NeverSwept
+
+-- ---- the report
 
 abbrev pub settled_by : Answers → Flight → PairKind → Option Float → Pose
 settled_by h f Solid None = f.end
@@ -85,57 +80,35 @@ settled_by h f Pseudo i = f.end
 abbrev pub settled : Answers → Flight → Option Float → Pose
 settled h f i = settled_by h f f.pair i
 
-abbrev pub standing : Answers → Flight → Report → Report
-standing h f r = record { pieces = r.pieces; count = r.count; turning = r.turning; impact = r.impact; stands = settled h f r.impact }
-
-abbrev pub cast_swept : Answers → Flight → ShapeKind → TargetKind → Report
-cast_swept h f a t = standing h f (cast_kinds h f a t (empty_report f.end))
-
-abbrev pub reported : Answers → Flight → ShapeKind → ShapeKind → Report
-reported h f a b = cond (swept_by h f.fast a) (cast_swept h f a (target_kind_of b)) (empty_report f.end)
+-- the report of casts: what the pair takes of them, and where the shape then stands
+abbrev pub reported : Answers → Flight → Casts → Report
+reported h f c = record { casts = c; impact = impact_of f.pair c; stands = settled h f (impact_of f.pair c) }
 
 abbrev pub flown_by : Answers → Flight → Result (ShapeKind × ShapeKind) CastRefusal → Result Report CastRefusal
 flown_by h f (Err e) = Err e
-flown_by h f (Ok k) = Ok (reported h f k.0 k.1)
+flown_by h f (Ok k) = Ok (reported h f (casts_of h f k.0 (target_kind_of k.1)))
 
 abbrev pub flown : Answers → Flight → Result Report CastRefusal
 flown h f = flown_by h f (checked h f)
 
 -- ---- what it means
 
--- the pieces of a fast shape, with their ways: the shape itself, or the children of a Compound that are pieces
-abbrev pub child_pieces : Answers → Sweep → List Child → List (ℕ × Sweep)
-child_pieces h w [] = []
-child_pieces h w (c ∷ cs) = cond (is_proxy (h.kind c.shape)) ((c.shape, child_sweep h w c) ∷ child_pieces h w cs) (child_pieces h w cs)
-
-abbrev pub pieces_of : Answers → ShapeKind → ℕ → Sweep → List (ℕ × Sweep)
-pieces_of h Kinds.TheVariants.Proxy s w = (s, w) ∷ []
-pieces_of h Kinds.TheVariants.Compound s w = child_pieces h w (h.children s)
-pieces_of h Kinds.TheVariants.TriMesh s w = []
-pieces_of h Kinds.TheVariants.Polyline s w = []
-pieces_of h Kinds.TheVariants.HeightField s w = []
-pieces_of h Kinds.TheVariants.Voxels s w = []
-pieces_of h Kinds.TheVariants.Other s w = []
-
--- what is there of an impact, as a list
-abbrev pub found : Option Float → List Float → List Float
-found None is = is
-found (Some i) is = i ∷ is
+-- nothing cast, and the shape at a pose
+abbrev pub empty_report : Pose → Report
+empty_report e = record { casts = casts.NeverSwept; impact = None; stands = e }
 
 -- the impacts of the pieces' casts, of those that have one
 abbrev pub impacts_of : Answers → Flight → TargetKind → List (ℕ × Sweep) → List Float
-impacts_of h f t [] = []
-impacts_of h f t (p ∷ ps) = found (took_of f.pair (piece_cast h f t p.0 p.1)) (impacts_of h f t ps)
+impacts_of h f t ps = filter_map (took_of f.pair) (casts_of_pieces h f t ps)
 
--- Of casts of pieces: there is one for each piece, in order, and the pair's impact is the least of theirs.
+-- Of casts of pieces: they are those of the pieces, in order, and the pair's impact is the least of theirs.
 pub record ByPieces (h : Answers) (f : Flight) (t : TargetKind) (ps : List (ℕ × Sweep)) (r : Report) : Type 0 where
-  pub all_cast : r.count ≡ length ps
-  pub in_order : (i : ℕ) → i < length ps → slice_index_or r.pieces i None ≡ piece_cast h f t (slice_index_or ps i (0, sweep_of f)).0 (slice_index_or ps i (0, sweep_of f)).1
+  pub all_cast : r.casts ≡ casts.Pieces (record { items = casts_of_pieces h f t ps })
   pub least_impact : r.impact ≡ least (impacts_of h f t ps)
 
 -- Of one turning cast: the pair's impact is its time over the time unit, where that lies in the pair's range.
 pub record ByTurning (h : Answers) (f : Flight) (r : Report) : Type 0 where
-  pub one_cast : r.turning ≡ Some (turning_answer h f)
+  pub one_cast : r.casts ≡ casts.Turning (turning_answer h f)
   pub its_impact : r.impact ≡ turned_of f.pair (turning_answer h f) one_f one_f
 
 -- what was found of a shape that is swept

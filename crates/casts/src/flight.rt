@@ -1,13 +1,12 @@
 //! A single check: one fast shape on its way, and one target.
 ghost use Rattle.std.specs.Prelude.{◌≡◌};
-ghost use Rattle.casts.specs.Flights.{refusal_number, ranged_flight, admitted_flight, sweep_of, motion_of, checked};
+ghost use Rattle.casts.specs.Flights.{ranged_flight, admitted_flight, sweep_of, motion_of, query_of, turning_query, checked};
 
+use crate::refusal::CastRefusal;
 use geometry::{Pose, ShapeKind, Vector};
-use hosts::{Host, Motion, Sweep};
+use hosts::{CastQuery, Host, Motion, Sweep, TurningQuery};
+use numbers::RANGE;
 use outcomes::PairKind;
-
-/// The size up to which a number that is handed in goes.
-const RANGE: f32 = 1_000_000.0;
 
 /// A fast shape on its way from one pose to another, a target that stands still, and how the pair judges a cast.
 #[derive(Clone, Copy)]
@@ -18,26 +17,6 @@ pub struct Flight {
     pub target: u32,
     pub pose: Pose,
     pub pair: PairKind,
-}
-
-/// Why a flight is not cast.
-#[derive(Clone, Copy)]
-pub enum CastRefusal {
-    NumberOutOfRange,
-    PoseNotAdmitted,
-    ShapeUnknown,
-}
-
-impl CastRefusal {
-    /// The number of the refusal, as in the table of the orders: 1 for numbers and poses, 3 for shapes.
-    pub fn number(self) -> u8
-        ensures { result ≡ refusal_number self }
-    {
-        match self {
-            CastRefusal::NumberOutOfRange | CastRefusal::PoseNotAdmitted => 1,
-            CastRefusal::ShapeUnknown => 3,
-        }
-    }
 }
 
 impl Flight {
@@ -75,6 +54,32 @@ impl Flight {
             angular: Vector::zero(),
         }
     }
+
+    /// The question for one piece of the fast shape.
+    pub(crate) fn piece_query(self, shape: u32, sweep: Sweep) -> CastQuery
+        ensures { result ≡ query_of self shape sweep }
+    {
+        CastQuery {
+            fast: shape,
+            sweep,
+            target: self.target,
+            pose: self.pose,
+            slop: 0.0,
+        }
+    }
+
+    /// The question for the whole fast shape, as one that turns, for one time unit.
+    pub(crate) fn turning_query(self) -> TurningQuery
+        ensures { result ≡ turning_query self }
+    {
+        TurningQuery {
+            fast: self.fast,
+            motion: self.motion(),
+            target: self.target,
+            pose: self.pose,
+            dt: 1.0,
+        }
+    }
 }
 
 /// The kinds of both shapes, where every number is in range, every pose admitted and both shapes are known; tested in this
@@ -91,8 +96,7 @@ pub fn check_flight<H: Host>(
     if !flight.is_admitted(host) {
         return Err(CastRefusal::PoseNotAdmitted);
     }
-    match (host.kind(flight.fast), host.kind(flight.target)) {
-        (Some(fast), Some(target)) => Ok((fast, target)),
-        _ => Err(CastRefusal::ShapeUnknown),
-    }
+    let fast = host.kind(flight.fast).ok_or(CastRefusal::ShapeUnknown)?;
+    let target = host.kind(flight.target).ok_or(CastRefusal::ShapeUnknown)?;
+    Ok((fast, target))
 }

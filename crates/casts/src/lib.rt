@@ -4,10 +4,12 @@
 
 mod flight;
 mod pieces;
+mod refusal;
 mod report;
 mod single;
 
-pub use flight::{CastRefusal, Flight, check_flight};
+pub use flight::{Flight, check_flight};
 pub use pieces::{TargetKind, cast_sub_shape, child_sweep, is_piece, is_swept, target_kind};
-pub use report::Report;
+pub use refusal::CastRefusal;
+pub use report::{Casts, Report};
 pub use single::cast_flight;

@@ -8,7 +8,7 @@ use hosts::{CastQuery, Child, Host, Sweep};
 use outcomes::{CastOutcome, PairKind};
 
 /// How a target takes the casts of a fast shape's pieces.
-#[derive(Clone, Copy)]
+#[derive(Clone, Copy, Debug, PartialEq, Eq)]
 pub enum TargetKind {
     /// A proxy cast for each piece.
     Proxy,
@@ -22,22 +22,14 @@ pub enum TargetKind {
 pub fn is_piece<H: Host>(host: &H, shape: u32) -> bool
     ensures { result ≡ is_proxy ((H.answers host.now).kind shape) }
 {
-    match host.kind(shape) {
-        Some(ShapeKind::Proxy) => true,
-        _ => false,
-    }
+    host.kind(shape) == Some(ShapeKind::Proxy)
 }
 
 /// Whether some child is a piece.
 fn has_piece<H: Host>(host: &H, children: &[Child]) -> bool
     ensures { result ≡ has_proxy (H.answers host.now) children.now }
 {
-    for child in children {
-        if is_piece(host, child.shape) {
-            return true;
-        }
-    }
-    false
+    children.iter().any(|child| is_piece(host, child.shape))
 }
 
 /// Whether a shape of this kind is swept as the moving one. Meshes and their like never are, nor is a Compound without a piece.
@@ -56,13 +48,8 @@ pub fn target_kind(kind: ShapeKind) -> TargetKind
 {
     match kind {
         ShapeKind::Proxy => TargetKind::Proxy,
-        _ => {
-            if kind.is_composite() {
-                TargetKind::Composite
-            } else {
-                TargetKind::Turning
-            }
-        }
+        _ if kind.is_composite() => TargetKind::Composite,
+        _ => TargetKind::Turning,
     }
 }
 

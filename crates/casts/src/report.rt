@@ -1,53 +1,61 @@
 //! What a single check found.
-ghost use Rattle.std.specs.Prelude.{◌≡◌};
-ghost use Rattle.casts.specs.Reports.{empty_report, noted, took_of};
+ghost use Rattle.std.specs.Prelude.{◌≡◌, fold, None};
+ghost use Rattle.strokes.specs.Strokes.{sooner_of};
+ghost use Rattle.casts.specs.Reports.{took_of, impact_of};
 
+use arrayvec::ArrayVec;
 use geometry::Pose;
-use outcomes::{CastOutcome, PairKind, TurningOutcome};
+use hosts::children::MOST_CHILDREN;
+use outcomes::{CastOutcome, PairKind, TurningOutcome, turning_impact};
 use strokes::sooner;
 
-/// The casts of a flight: that of each piece, in order, or one turning cast of the whole; the pair's impact; and where the
-/// fast shape then stands. Without pieces and without a turning cast the shape is never swept.
-#[derive(Clone, Copy)]
+/// One cast of each piece, in order.
+pub type PieceCasts = ArrayVec<Option<CastOutcome>, MOST_CHILDREN>;
+
+/// The casts of a flight.
+#[derive(Drop)]
+pub enum Casts {
+    /// The fast shape is never swept.
+    NeverSwept,
+    /// One turning cast of the whole.
+    Turning(TurningOutcome),
+    /// One cast of each piece, in order.
+    Pieces(PieceCasts),
+}
+
+/// The casts of a flight, the pair's impact, and where the fast shape then stands.
+#[derive(Drop)]
 pub struct Report {
-    pub pieces: [Option<CastOutcome>; 16],
-    pub count: usize,
-    pub turning: Option<TurningOutcome>,
+    pub casts: Casts,
     pub impact: Option<f32>,
     pub stands: Pose,
 }
 
 /// What a pair takes of a piece's cast, at the cap 1.
-pub fn taken(outcome: Option<CastOutcome>, pair: PairKind) -> Option<f32>
+fn taken(outcome: Option<CastOutcome>, pair: PairKind) -> Option<f32>
     ensures { result ≡ took_of pair outcome }
 {
-    let outcome = outcome?;
-    outcome.impact(pair, 1.0)
+    outcome?.impact(pair, 1.0)
 }
 
-impl Report {
-    /// Nothing cast, and the fast shape at the end of its way.
-    pub fn empty(end: Pose) -> Report
-        ensures { result ≡ empty_report end }
-    {
-        Report {
-            pieces: [None; 16],
-            count: 0,
-            turning: None,
-            impact: None,
-            stands: end,
-        }
-    }
+/// The soonest of what a pair takes of the pieces' casts.
+fn soonest(outcomes: &[Option<CastOutcome>], pair: PairKind) -> Option<f32>
+    ensures { result ≡ fold (λ best outcome. sooner_of best (took_of pair outcome)) None outcomes.now }
+{
+    outcomes
+        .iter()
+        .fold(None, |best, outcome| sooner(best, taken(*outcome, pair)))
+}
 
-    /// One piece's cast more; the sooner impact stays.
-    pub fn note(&mut self, outcome: Option<CastOutcome>, pair: PairKind)
-        ensures { self.new ≡ noted pair self.old outcome }
+impl Casts {
+    /// What a pair takes of them.
+    pub(crate) fn impact(&self, pair: PairKind) -> Option<f32>
+        ensures { result ≡ impact_of pair self.now }
     {
-        let place = self.count;
-        if place < 16 {
-            self.pieces[place] = outcome;
-            self.count = place + 1;
-            self.impact = sooner(self.impact, taken(outcome, pair));
+        match self {
+            Casts::NeverSwept => None,
+            Casts::Turning(outcome) => turning_impact(*outcome, 1.0, pair, 1.0),
+            Casts::Pieces(outcomes) => soonest(outcomes.as_slice(), pair),
         }
     }
 }

@@ -1,141 +1,112 @@
 //! Casts a flight.
-ghost use Rattle.std.specs.Prelude.{◌≡◌};
-ghost use Rattle.casts.specs.Singles.{query_of, cast_piece, cast_child, cast_children, cast_turning, cast_kinds, settled, cast_swept, flown, Flown};
+ghost use Rattle.std.specs.Prelude.{◌≡◌, [], ◌∷◌};
+ghost use Rattle.casts.specs.Flights.{sweep_of};
+ghost use Rattle.casts.specs.Pieces.{child_sweep as sweep_of_child};
+ghost use Rattle.casts.specs.Singles.{piece_cast, casts_of_pieces, child_pieces, turning_answer, casts_of, settled, reported, flown, Flown};
 
-use crate::flight::{CastRefusal, Flight, check_flight};
+use crate::flight::{Flight, check_flight};
 use crate::pieces::{TargetKind, cast_sub_shape, child_sweep, is_piece, is_swept, target_kind};
-use crate::report::Report;
+use crate::refusal::CastRefusal;
+use crate::report::{Casts, PieceCasts, Report};
+use arrayvec::ArrayVec;
 use geometry::{Pose, ShapeKind};
-use hosts::{CastQuery, Child, Host, Sweep, TurningQuery};
-use outcomes::PairKind;
+use hosts::{Child, Host, Sweep};
+use outcomes::{CastOutcome, PairKind, TurningOutcome};
 
-/// The question for one piece of the fast shape.
-fn query(flight: Flight, shape: u32, sweep: Sweep) -> CastQuery
-    ensures { result ≡ query_of flight shape sweep }
-{
-    CastQuery {
-        fast: shape,
-        sweep,
-        target: flight.target,
-        pose: flight.pose,
-        slop: 0.0,
+/// A flight, the host that answers for it, and how its target takes casts.
+#[derive(Drop)]
+struct Check<'a, H> {
+    host: &'a H,
+    flight: Flight,
+    target: TargetKind,
+}
+
+impl<H: Host> Check<'_, H> {
+    /// Casts one piece.
+    fn cast_piece(&self, shape: u32, sweep: Sweep) -> Option<CastOutcome>
+        ensures { result ≡ piece_cast (H.answers self.now.host.now) self.now.flight self.now.target shape sweep }
+    {
+        let query = self.flight.piece_query(shape, sweep);
+        cast_sub_shape(self.host, query, self.target, self.flight.pair, 1.0)
     }
-}
 
-/// Casts one piece and notes what it answered.
-fn cast_piece<H: Host>(
-    host: &H,
-    flight: Flight,
-    target: TargetKind,
-    shape: u32,
-    sweep: Sweep,
-    report: &mut Report,
-)
-    ensures { report.new ≡ cast_piece (H.answers host.now) flight target report.old shape sweep }
-{
-    let outcome = cast_sub_shape(host, query(flight, shape, sweep), target, flight.pair, 1.0);
-    report.note(outcome, flight.pair);
-}
-
-/// Casts a child that is a piece; passes over any other.
-fn cast_child<H: Host>(
-    host: &H,
-    flight: Flight,
-    target: TargetKind,
-    child: Child,
-    report: &mut Report,
-)
-    ensures { report.new ≡ cast_child (H.answers host.now) flight target report.old child }
-{
-    if is_piece(host, child.shape) {
-        let sweep = child_sweep(host, flight.sweep(), child);
-        cast_piece(host, flight, target, child.shape, sweep, report);
+    /// Casts a child that is a piece.
+    fn cast_child(&self, child: Child) -> Option<CastOutcome>
+        ensures { let h = H.answers self.now.host.now in
+            result ≡ piece_cast h self.now.flight self.now.target child.shape (sweep_of_child h (sweep_of self.now.flight) child) }
+    {
+        let sweep = child_sweep(self.host, self.flight.sweep(), child);
+        self.cast_piece(child.shape, sweep)
     }
-}
 
-/// Casts the children in their order.
-fn cast_children<H: Host>(
-    host: &H,
-    flight: Flight,
-    target: TargetKind,
-    children: &[Child],
-    report: &mut Report,
-)
-    ensures { report.new ≡ cast_children (H.answers host.now) flight target report.old children.now }
-{
-    for child in children {
-        cast_child(host, flight, target, *child, report);
-    }
-}
-
-/// Casts the whole shape once, as one that turns, for one time unit.
-fn cast_turning<H: Host>(host: &H, flight: Flight, report: &mut Report)
-    ensures { report.new ≡ cast_turning (H.answers host.now) flight report.old }
-{
-    let outcome = host.turning_cast(
-        TurningQuery {
-            fast: flight.fast,
-            motion: flight.motion(),
-            target: flight.target,
-            pose: flight.pose,
-            dt: 1.0,
-        },
-        flight.pair,
-    );
-    report.turning = Some(outcome);
-    report.impact = outcome.impact(1.0, flight.pair, 1.0);
-}
-
-/// Casts a shape that is swept, by the kinds of both shapes.
-fn cast_kinds<H: Host>(
-    host: &H,
-    flight: Flight,
-    fast: ShapeKind,
-    target: TargetKind,
-    report: &mut Report,
-)
-    ensures { report.new ≡ cast_kinds (H.answers host.now) flight fast target report.old }
-{
-    match (fast, target) {
-        (ShapeKind::Other, _) | (_, TargetKind::Turning) => cast_turning(host, flight, report),
-        (ShapeKind::Compound, _) => {
-            cast_children(host, flight, target, host.children(flight.fast), report);
+    /// Casts the children that are pieces, in their order.
+    fn cast_children(&self) -> PieceCasts
+        ensures { let h = H.answers self.now.host.now in
+            result.items ≡ casts_of_pieces h self.now.flight self.now.target (child_pieces h (sweep_of self.now.flight) (h.children self.now.flight.fast)) }
+    {
+        let mut casts = ArrayVec::new();
+        // a `for`: `extend` of a chain answers an error, which cannot come here
+        for child in self.host.children(self.flight.fast) {
+            if is_piece(self.host, child.shape) {
+                casts.push(self.cast_child(*child));
+            }
         }
-        (ShapeKind::Proxy, _) => {
-            cast_piece(host, flight, target, flight.fast, flight.sweep(), report);
+        casts
+    }
+
+    /// Casts a shape that is one piece.
+    fn cast_whole(&self) -> PieceCasts
+        ensures { result.items ≡ piece_cast (H.answers self.now.host.now) self.now.flight self.now.target self.now.flight.fast (sweep_of self.now.flight) ∷ [] }
+    {
+        let mut casts = ArrayVec::new();
+        casts.push(self.cast_piece(self.flight.fast, self.flight.sweep()));
+        casts
+    }
+
+    /// Casts the whole shape once, as one that turns, for one time unit.
+    fn cast_turning(&self) -> TurningOutcome
+        ensures { result ≡ turning_answer (H.answers self.now.host.now) self.now.flight }
+    {
+        self.host
+            .turning_cast(self.flight.turning_query(), self.flight.pair)
+    }
+
+    /// The casts that the flight gets, by the kinds of both shapes.
+    fn casts(&self, fast: ShapeKind) -> Casts
+        ensures { result ≡ casts_of (H.answers self.now.host.now) self.now.flight fast self.now.target }
+    {
+        if !is_swept(self.host, self.flight.fast, fast) {
+            return Casts::NeverSwept;
         }
-        _ => {}
+        match (fast, self.target) {
+            (ShapeKind::Other, _) | (_, TargetKind::Turning) => Casts::Turning(self.cast_turning()),
+            (ShapeKind::Compound, _) => Casts::Pieces(self.cast_children()),
+            _ => Casts::Pieces(self.cast_whole()),
+        }
     }
-}
 
-/// Where the fast shape stands in the end: a solid impact stops it, a pseudo one does not.
-fn stands<H: Host>(host: &H, flight: Flight, impact: Option<f32>) -> Pose
-    ensures { result ≡ settled (H.answers host.now) flight impact }
-{
-    match (flight.pair, impact) {
-        (PairKind::Solid, Some(fraction)) => host.pose_at(flight.sweep(), fraction),
-        _ => flight.end,
+    /// Where the fast shape stands in the end: a solid impact stops it, a pseudo one does not.
+    fn stands(&self, impact: Option<f32>) -> Pose
+        ensures { result ≡ settled (H.answers self.now.host.now) self.now.flight impact }
+    {
+        match (self.flight.pair, impact) {
+            (PairKind::Solid, Some(fraction)) => self.host.pose_at(self.flight.sweep(), fraction),
+            _ => self.flight.end,
+        }
     }
-}
 
-/// Casts a shape that is swept, and says where it then stands.
-fn cast_swept<H: Host>(host: &H, flight: Flight, fast: ShapeKind, target: TargetKind) -> Report
-    ensures { result ≡ cast_swept (H.answers host.now) flight fast target }
-{
-    let mut report = Report::empty(flight.end);
-    cast_kinds(host, flight, fast, target, &mut report);
-    report.stands = stands(host, flight, report.impact);
-    report
-}
-
-fn fly<H: Host>(host: &H, flight: Flight) -> Result<Report, CastRefusal>
-    ensures { result ≡ flown (H.answers host.now) flight }
-{
-    let (fast, target) = check_flight(host, flight)?;
-    if is_swept(host, flight.fast, fast) {
-        Ok(cast_swept(host, flight, fast, target_kind(target)))
-    } else {
-        Ok(Report::empty(flight.end))
+    /// The casts that the flight gets, what the pair takes of them, and where the fast shape then stands.
+    fn report(&self, fast: ShapeKind) -> Report
+        ensures { let h = H.answers self.now.host.now in result ≡ reported h self.now.flight (casts_of h self.now.flight fast self.now.target) }
+    {
+        let casts = self.casts(fast);
+        let impact = casts.impact(self.flight.pair);
+        let stands = self.stands(impact);
+        Report {
+            casts,
+            impact,
+            stands,
+        }
     }
 }
 
@@ -144,5 +115,11 @@ pub fn cast_flight<H: Host>(host: &H, flight: Flight) -> Result<Report, CastRefu
     ensures value { result ≡ flown (H.answers host.now) flight }
     ensures law { Flown (H.answers host.now) flight result }
 {
-    fly(host, flight)
+    let (fast, target) = check_flight(host, flight)?;
+    let check = Check {
+        host,
+        flight,
+        target: target_kind(target),
+    };
+    Ok(check.report(fast))
 }

@@ -1,31 +1,29 @@
 -- The first impact of a step. Assumes nothing.
-use Rattle.std.specs.Prelude.{ℕ, cond, List, [], ◌∷◌, Some, None, Option, Float}
+use Rattle.std.specs.Prelude.{ℕ, cond, ◌&&◌, List, [], fold, Some, None, Option, Float}
 use Rattle.std.specs.Float.Ieee.{lt, mul, neg}
 use Rattle.std.specs.Float.{next_up, binary32}
 use Rattle.numbers.specs.Constants.{zero_f, one_f}
+use Rattle.numbers.specs.Picks.{lesser_of}
 use Rattle.geometry.specs.declared.handle.RigidBodyHandle.{RigidBodyHandle}
+use Rattle.spaces.specs.Spaces.{nothing_in}
 use Rattle.slots.specs.Store.{found}
 use Rattle.records.specs.declared.rigid_body.RigidBody.{RigidBody}
 use Rattle.records.specs.Lists.{listed}
 use Rattle.sweeps.specs.declared.hall.PseudoHitMode.TheVariants.{Ignore}
 use Rattle.sweeps.specs.Env.{Env}
-use Rattle.sweeps.specs.Sweeps.{reached, body_swept}
+use Rattle.sweeps.specs.Sweeps.{body_swept}
 
 -- how far a body comes, where pseudo pairs have no part
 abbrev pub free_fraction : Env → ℕ → RigidBodyHandle → RigidBody → Float
-free_fraction e room h b = (body_swept e room Ignore h b ([], reached one_f 0) (listed b.colliders)).1.fraction
-
-abbrev pub sooner : Float → Float → Float
-sooner least f = cond (lt f least) f least
+free_fraction e room h b = (body_swept e room Ignore h b (nothing_in [], one_f) (listed b.colliders)).1
 
 abbrev pub soonered_by : Env → ℕ → RigidBodyHandle → Float → Option RigidBody → Float
 soonered_by e room h least None = least
-soonered_by e room h least (Some b) = cond b.marked (sooner least (free_fraction e room h b)) least
+soonered_by e room h least (Some b) = cond b.marked (lesser_of least (free_fraction e room h b)) least
 
 -- the least fraction of the marked bodies of a list
 abbrev pub least_fraction : Env → ℕ → Float → List RigidBodyHandle → Float
-least_fraction e room least [] = least
-least_fraction e room least (h ∷ hs) = least_fraction e room (soonered_by e room h least (found e.bodies h.0)) hs
+least_fraction e room least hs = fold (λ f h. soonered_by e room h f (found e.bodies h.0)) least hs
 
 -- the largest number below x
 abbrev pub previous : Float → Float
@@ -37,7 +35,7 @@ below_dt t dt = cond (lt t dt) t (previous dt)
 
 -- the time of an impact at a fraction, from 0 and below dt; none where nothing is met or no time passes
 abbrev pub time_at : Float → Float → Option Float
-time_at f dt = cond (lt f one_f) (cond (lt zero_f dt) (Some (below_dt (mul binary32 f dt) dt)) None) None
+time_at f dt = cond (lt f one_f && lt zero_f dt) (Some (below_dt (mul binary32 f dt) dt)) None
 
 abbrev pub first_impact : Env → ℕ → List RigidBodyHandle → Option Float
 first_impact e room hs = time_at (least_fraction e room one_f hs) e.step.dt

@@ -1,4 +1,5 @@
 pub mod FixedTargets
 pub mod Stages
+pub mod Scenes
 pub mod Solver
 pub mod FirstImpact

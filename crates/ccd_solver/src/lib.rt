@@ -4,9 +4,11 @@
 
 mod first_impact;
 mod fixed_targets;
+mod scene;
 mod solver;
 mod stages;
 
 pub use first_impact::{find_first_impact, impact_time};
 pub use fixed_targets::collect_fixed_targets;
-pub use solver::{Scene, Solved, solve};
+pub use scene::Scene;
+pub use solver::{Solved, solve};

@@ -1,146 +1,108 @@
 //! One stage of a step: the sweeps of non-bullets or of bullets, and then their clamps.
+//!
+//! The spaces for results and hits go side by side: of a slice that is lent to a space within another struct, the check does not know
+//! what it ends as.
 ghost use Rattle.std.specs.Prelude.{◌≡◌, length};
-ghost use Rattle.sweeps.specs.Env.{hall_of, env_of};
-ghost use Rattle.ccd_solver.specs.Stages.{setting, takes_turn, active_swept, stage_swept, Within, Grown, staged};
+ghost use Rattle.spaces.specs.Spaces.{state, SameSpace};
+ghost use Rattle.sweeps.specs.Env.{hall_of};
+ghost use Rattle.ccd_solver.specs.Stages.{takes_turn, active_swept, stage_swept, staged, GoesOn};
+ghost use Rattle.ccd_solver.specs.Scenes.{setting_of};
 
+use crate::scene::{Scene, Tier};
 use clamps::apply_clamps;
 use finders::{Filter, Finder};
 use geometry::{ColliderHandle, RigidBodyHandle};
 use hosts::Host;
-use pair_casts::Step;
-use records::{Collider, RigidBody};
+use records::RigidBody;
 use slots::{Slot, get};
-use sweeps::{BodyContinuousResult, Hall, PseudoHit, PseudoHitMode, Reached, sweep_fast_body};
+use spaces::Space;
+use sweeps::{BodyContinuousResult, BodySweep, Hall, PseudoHit, PseudoHitMode};
 
-/// How many results and hits are written.
-#[derive(Clone, Copy)]
-pub struct Tally {
-    pub results: usize,
-    pub hits: usize,
+impl Tier {
+    /// Whether a body is swept in the stage of this tier: marked, and a bullet or no bullet.
+    fn takes_turn(self, body: &RigidBody) -> bool
+        ensures { result ≡ takes_turn self body.now }
+    {
+        body.marked
+            && match self {
+                Tier::NonBullets => !body.is_bullet(),
+                Tier::Bullets => body.is_bullet(),
+            }
+    }
 }
 
-/// Whether a body is swept in a stage: marked, and a bullet in the stage of bullets, no bullet in the other.
-fn takes_turn(bullets: bool, body: &RigidBody) -> bool
-    ensures { result ≡ takes_turn bullets body.now }
-{
-    body.marked && body.is_bullet() == bullets
-}
-
-/// Sweeps an active body, if its turn is in this stage, and writes its result.
-fn sweep_active<'h, H: Host, D: Finder, F: Filter>(
-    hall: &Hall<'h, H, D, F>,
-    bullets: bool,
+/// Sweeps an active body, if its turn is in this stage, and writes its result, where there is room.
+fn sweep_active<H: Host, D: Finder, F: Filter>(
+    hall: &Hall<H, D, F>,
+    tier: Tier,
     handle: RigidBodyHandle,
     candidates: &mut [ColliderHandle],
-    tally: Tally,
-    results: &mut [BodyContinuousResult],
-    hits: &mut [PseudoHit],
-) -> Tally
-    ensures { (results.new, hits.new, result) ≡ active_swept (hall_of H.Host D.Finder F.Filter hall.now) (length candidates.old) bullets (results.old, hits.old, tally) handle }
+    results: &mut Space<BodyContinuousResult>,
+    hits: &mut Space<PseudoHit>,
+)
+    ensures results { GoesOn results.old results.new }
+    ensures hits { SameSpace hits.old hits.new }
+    ensures log { (state results.new, state hits.new) ≡ active_swept (hall_of H.Host D.Finder F.Filter hall.now) (length candidates.old) tier (state results.old, state hits.old) handle }
 {
     let Some(body) = get(hall.bodies, handle.0) else {
-        return tally;
+        return;
     };
-    let number = tally.results;
-    if !takes_turn(bullets, body) || number >= results.len() {
-        return tally;
+    if !tier.takes_turn(body) || !results.has_room(1) {
+        return;
     }
-    let start = Reached {
-        fraction: 1.0,
-        hits: tally.hits,
-    };
-    let reached = sweep_fast_body(
+    let sweep = BodySweep {
         hall,
-        PseudoHitMode::Record(number),
-        handle,
+        mode: PseudoHitMode::Record(results.count()),
+        owner: handle,
         body,
-        candidates,
-        start,
-        hits,
-    );
-    results[number] = BodyContinuousResult {
-        handle,
-        fraction: reached.fraction,
     };
-    Tally {
-        results: number + 1,
-        hits: reached.hits,
-    }
+    let fraction = sweep.run(candidates, 1.0, hits);
+    results.push(BodyContinuousResult { handle, fraction });
 }
 
 /// Sweeps the active bodies of a stage, in the order of the list.
-fn sweep_stage<'h, H: Host, D: Finder, F: Filter>(
-    hall: &Hall<'h, H, D, F>,
-    bullets: bool,
+fn sweep_stage<H: Host, D: Finder, F: Filter>(
+    hall: &Hall<H, D, F>,
+    tier: Tier,
     active: &[RigidBodyHandle],
     candidates: &mut [ColliderHandle],
-    start: Tally,
-    results: &mut [BodyContinuousResult],
-    hits: &mut [PseudoHit],
-) -> Tally
-    ensures { (results.new, hits.new, result) ≡ stage_swept (hall_of H.Host D.Finder F.Filter hall.now) (length candidates.old) bullets (results.old, hits.old, start) active.now }
+    results: &mut Space<BodyContinuousResult>,
+    hits: &mut Space<PseudoHit>,
+)
+    ensures results { GoesOn results.old results.new }
+    ensures hits { SameSpace hits.old hits.new }
+    ensures log { (state results.new, state hits.new) ≡ stage_swept (hall_of H.Host D.Finder F.Filter hall.now) (length candidates.old) tier (state results.old, state hits.old) active.now }
 {
-    let mut tally = start;
     for handle in active {
-        tally = sweep_active(hall, bullets, *handle, candidates, tally, results, hits);
+        sweep_active(hall, tier, *handle, candidates, results, hits);
     }
-    tally
 }
 
-/// Sweeps the active bodies of a stage over what is lent.
-fn sweep_over<'h, H: Host, D: Finder, F: Filter>(
-    host: &'h H,
-    finder: &'h D,
-    filter: &'h F,
-    bodies: &'h [Slot<RigidBody>],
-    colliders: &'h [Slot<Collider>],
-    step: Step,
-    bullets: bool,
-    active: &[RigidBodyHandle],
-    candidates: &mut [ColliderHandle],
-    start: Tally,
-    results: &mut [BodyContinuousResult],
-    hits: &mut [PseudoHit],
-) -> Tally
-    ensures grown { Within (results.old, hits.old, start) → Grown (results.old, hits.old, start) (results.new, hits.new, result) }
-    ensures log { (results.new, hits.new, result) ≡ stage_swept (env_of (H.answers host.now) (D.listed finder.now) (F.keeps filter.now) bodies.now colliders.now step) (length candidates.old) bullets (results.old, hits.old, start) active.now }
-{
-    let hall = Hall {
-        host,
-        finder,
-        filter,
-        bodies,
-        colliders,
-        step,
-    };
-    sweep_stage(&hall, bullets, active, candidates, start, results, hits)
-}
-
-/// One stage: all its sweeps, and then its clamps.
-pub(crate) fn run_stage<H: Host, D: Finder, F: Filter>(
-    host: &H,
-    finder: &D,
-    filter: &F,
-    bodies: &mut [Slot<RigidBody>],
-    colliders: &[Slot<Collider>],
-    step: Step,
-    bullets: bool,
-    active: &[RigidBodyHandle],
-    candidates: &mut [ColliderHandle],
-    start: Tally,
-    results: &mut [BodyContinuousResult],
-    hits: &mut [PseudoHit],
-) -> Tally
-    requires { Within (results.old, hits.old, start) }
-    ensures stage { (bodies.new, (results.new, hits.new, result)) ≡ staged (setting (H.answers host.now) (F.keeps filter.now) colliders.now step (length candidates.old)) (D.listed finder.now) bullets active.now (bodies.old, (results.old, hits.old, start)) }
-    ensures within { Within (results.new, hits.new, result) }
-{
-    let tally = sweep_over(
-        host, finder, filter, bodies, colliders, step, bullets, active, candidates, start, results,
-        hits,
-    );
-    let from = start.results;
-    let to = tally.results;
-    apply_clamps(host, bodies, &results[from..to]);
-    tally
+impl<'a, H: Host, L: Finder, D: Finder, F: Filter> Scene<'a, H, L, D, F> {
+    /// One stage over the reports of a finder: all its sweeps, and then its clamps.
+    pub(crate) fn run_stage<N: Finder>(
+        &self,
+        finder: &N,
+        tier: Tier,
+        bodies: &mut [Slot<RigidBody>],
+        candidates: &mut [ColliderHandle],
+        results: &mut Space<BodyContinuousResult>,
+        hits: &mut Space<PseudoHit>,
+    )
+        ensures results { GoesOn results.old results.new }
+        ensures hits { SameSpace hits.old hits.new }
+        ensures stage { (bodies.new, (state results.new, state hits.new)) ≡ staged (setting_of H.Host F.Filter self.now (length candidates.old)) (N.listed finder.now) tier self.now.active.now (bodies.old, (state results.old, state hits.old)) }
+    {
+        let from = results.count();
+        let hall = Hall {
+            host: self.host,
+            finder,
+            filter: self.filter,
+            bodies,
+            colliders: self.colliders,
+            step: self.step,
+        };
+        sweep_stage(&hall, tier, self.active, candidates, results, hits);
+        apply_clamps(self.host, bodies, &results.written()[from..]);
+    }
 }

@@ -1,5 +1,7 @@
 -- One body stops. Assumes nothing.
-use Rattle.std.proofs.Common.{◌≡◌, Bool, true, false, cond, T, List, length, Some, None, Option, sym, refl, ap, ◌∙◌, subst, arith}
+use Rattle.std.proofs.Common.{◌≡◌, T, List, length, Some, None, Option, sym, refl, ap, ◌∙◌, subst, T_not, arith}
+use Rattle.std.specs.Bool.{passes, fails}
+use Rattle.std.proofs.lemmas.Bool.{cond_both}
 use Rattle.std.proofs.lemmas.List.{length-set}
 use Rattle.geometry.specs.declared.handle.Handle.{Handle}
 use Rattle.geometry.specs.declared.handle.RigidBodyHandle.{RigidBodyHandle}
@@ -13,11 +15,6 @@ use Rattle.records.specs.declared.rigid_body.RigidBody.{RigidBody}
 use Rattle.sweeps.specs.declared.hall.BodyContinuousResult.{BodyContinuousResult}
 use Rattle.clamps.specs.Clamps.{below, stopped_at, clamped_by, clamped_one}
 use Rattle.clamp_laws.proofs.Writes.{written_same, written_other}
-
--- what holds of either way holds of the way that a test takes
-by_test : {X : Type 0} (b : Bool) (x y : X) (P : X → Type 0) → (T b → P x) → ((T b → ⊥) → P y) → P (cond b x y)
-by_test true x y P f g = f tt
-by_test false x y P f g = g (λ t. t)
 
 -- handles of bodies are equal if what they hold is
 pub same_body : (j k : RigidBodyHandle) → j.0 ≡ k.0 → j ≡ k
@@ -37,9 +34,9 @@ module _ (h : Answers) (bs : List (Slot RigidBody)) (r : BodyContinuousResult) w
             let P' : Option RigidBody → Type 0 = λ v. P (changed bs r.handle.0 (stopped_at h b r.fraction) v).0 in
             subst P' (sym e) (stops b t e)
       ] in
-      by_test (below r) (clamped_by h bs r (found bs r.handle.0)) bs P
-      (λ t. way (found bs r.handle.0) t refl)
-      (λ n. stays (λ b t _. n t))
+      cond_both (below r) (clamped_by h bs r (found bs r.handle.0)) bs P
+      (λ e. way (found bs r.handle.0) (passes (below r) e) refl)
+      (λ e. stays (λ b t _. T_not (below r) (fails (below r) e) t))
 
   -- a live body below 1 stops
   pub one_stopped : (b : RigidBody) → T (below r) → found bs r.handle.0 ≡ Some b

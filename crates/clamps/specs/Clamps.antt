@@ -1,5 +1,5 @@
 -- Stopping bodies on their way. Assumes nothing.
-use Rattle.std.specs.Prelude.{ℕ, ◌+◌, Bool, cond, List, [], ◌∷◌, Some, None, Option, Float}
+use Rattle.std.specs.Prelude.{ℕ, Bool, cond, List, fold, count_by, Some, None, Option, Float}
 use Rattle.std.specs.Float.Ieee.{lt}
 use Rattle.numbers.specs.Constants.{one_f}
 use Rattle.hosts.specs.declared.questions.Sweep.{Sweep}
@@ -15,8 +15,7 @@ below r = lt r.fraction one_f
 
 -- how many bodies stop
 abbrev pub clamp_count : List BodyContinuousResult → ℕ
-clamp_count [] = 0
-clamp_count (r ∷ rs) = cond (below r) 1 0 + clamp_count rs
+clamp_count rs = count_by below rs
 
 -- the way of a body from its position to its next position
 abbrev pub body_sweep : RigidBody → Sweep
@@ -24,17 +23,7 @@ body_sweep b = record { start = b.position; end = b.next; centre = b.centre }
 
 -- its next position is the pose at the fraction; nothing else changes
 abbrev pub stopped_at : Answers → RigidBody → Float → RigidBody
-stopped_at h b f = record {
-  kind = b.kind;
-  position = b.position;
-  next = h.pose_at (body_sweep b) f;
-  centre = b.centre;
-  linvel = b.linvel;
-  angvel = b.angvel;
-  bullet = b.bullet;
-  marked = b.marked;
-  colliders = b.colliders;
-}
+stopped_at h b f = record b { next = h.pose_at (body_sweep b) f }
 
 abbrev pub clamped_by : Answers → List (Slot RigidBody) → BodyContinuousResult → Option RigidBody → List (Slot RigidBody)
 clamped_by h bs r None = bs
@@ -44,5 +33,4 @@ abbrev pub clamped_one : Answers → List (Slot RigidBody) → BodyContinuousRes
 clamped_one h bs r = cond (below r) (clamped_by h bs r (found bs r.handle.0)) bs
 
 abbrev pub clamped_all : Answers → List (Slot RigidBody) → List BodyContinuousResult → List (Slot RigidBody)
-clamped_all h bs [] = bs
-clamped_all h bs (r ∷ rs) = clamped_all h (clamped_one h bs r) rs
+clamped_all h bs rs = fold (clamped_one h) bs rs

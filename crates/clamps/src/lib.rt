@@ -25,9 +25,10 @@ fn stopped_at<H: Host>(host: &H, body: &RigidBody, fraction: f32) -> RigidBody
         end: body.next,
         centre: body.centre,
     };
-    let mut stopped = *body;
-    stopped.next = host.pose_at(sweep, fraction);
-    stopped
+    RigidBody {
+        next: host.pose_at(sweep, fraction),
+        ..*body
+    }
 }
 
 /// Stops one body, if it is to stop.
@@ -41,6 +42,7 @@ fn clamp<H: Host>(host: &H, bodies: &mut [Slot<RigidBody>], swept: BodyContinuou
         return;
     };
     let stopped = stopped_at(host, body, swept.fraction);
+    // never refused: the body is live
     let _ = replace(bodies, swept.handle.0, stopped);
 }
 
@@ -52,8 +54,8 @@ pub fn apply_clamps<H: Host>(
 )
     ensures { bodies.new ≡ clamped_all (H.answers host.now) bodies.old results.now }
 {
-    for result in results {
-        clamp(host, bodies, *result);
+    for swept in results {
+        clamp(host, bodies, *swept);
     }
 }
 
@@ -61,11 +63,5 @@ pub fn apply_clamps<H: Host>(
 pub fn count_clamps(results: &[BodyContinuousResult]) -> usize
     ensures { result ≡ clamp_count results.now }
 {
-    let mut count = 0;
-    for result in results {
-        if is_clamped(*result) {
-            count += 1;
-        }
-    }
-    count
+    results.iter().filter(|swept| is_clamped(**swept)).count()
 }

@@ -1,9 +1,10 @@
 -- Which hits are crossings, and their events. Assumes nothing.
-use Rattle.std.specs.Prelude.{ℕ, ◌+◌, Bool, false, cond, not, ◌&&◌, ◌||◌, List, [], ◌∷◌, length, Some, None, Option, nat_lt, slice_index_or, slice_set, Float}
+use Rattle.std.specs.Prelude.{ℕ, Bool, false, cond, not, ◌&&◌, ◌||◌, List, fold, Some, None, Option, slice_index_or, Float}
 use Rattle.std.specs.Float.Ieee.{lt}
 use Rattle.numbers.specs.Constants.{zero_f}
 use Rattle.geometry.specs.declared.pose.Pose.{Pose}
 use Rattle.outcomes.specs.Outcomes.{is_yes}
+use Rattle.spaces.specs.Spaces.{Written, has_room, with}
 use Rattle.hosts.specs.Hosts.{Answers}
 use Rattle.slots.specs.declared.Slot.{Slot}
 use Rattle.slots.specs.Store.{found}
@@ -64,12 +65,12 @@ crosses h bs cs f x = lt x.fraction f && passes_in h bs (found cs x.first.0) (fo
 -- ---- what is written
 
 -- the two events of a crossing, where there is room for both
-abbrev pub written : List CollisionEvent × ℕ → PseudoHit → List CollisionEvent × ℕ
-written s x = cond (nat_lt (s.1 + 1) (length s.0)) (slice_set (slice_set s.0 s.1 (started x)) (s.1 + 1) (stopped x), s.1 + 2) s
+abbrev pub written : Written CollisionEvent → PseudoHit → Written CollisionEvent
+written s x = cond (has_room s 2) (with (with s (started x)) (stopped x)) s
 
-abbrev pub emitted_one : Answers → List (Slot RigidBody) → List (Slot Collider) → List BodyContinuousResult → List CollisionEvent × ℕ → PseudoHit → List CollisionEvent × ℕ
+abbrev pub emitted_one : Answers → List (Slot RigidBody) → List (Slot Collider) → List BodyContinuousResult → Written CollisionEvent → PseudoHit → Written CollisionEvent
 emitted_one h bs cs rs s x = cond (crosses h bs cs (fraction_at rs x.result) x) (written s x) s
 
-abbrev pub emitted : Answers → List (Slot RigidBody) → List (Slot Collider) → List BodyContinuousResult → List CollisionEvent × ℕ → List PseudoHit → List CollisionEvent × ℕ
-emitted h bs cs rs s [] = s
-emitted h bs cs rs s (x ∷ xs) = emitted h bs cs rs (emitted_one h bs cs rs s x) xs
+-- the hits, one after the other
+abbrev pub emitted : Answers → List (Slot RigidBody) → List (Slot Collider) → List BodyContinuousResult → Written CollisionEvent → List PseudoHit → Written CollisionEvent
+emitted h bs cs rs s xs = fold (emitted_one h bs cs rs) s xs

@@ -4,68 +4,63 @@ ghost use Rattle.crossings.specs.Crossings.{overlaps_at, end_pose, passes, cross
 
 use geometry::Pose;
 use hosts::Host;
+use outcomes::is_yes;
 use pairs::{parent_body, target_collider_pose};
 use records::{Collider, RigidBody};
 use slots::{Slot, get};
-use sweeps::PseudoHit;
+use sweeps::{BodyContinuousResult, PseudoHit};
 
-/// Whether two colliders overlap at two poses. What the host cannot tell is not yes.
-fn overlap_at<H: Host>(
-    host: &H,
-    first: &Collider,
-    first_pose: Pose,
-    second: &Collider,
-    second_pose: Pose,
-) -> bool
-    ensures { result ≡ overlaps_at (H.answers host.now) first.now first_pose second.now second_pose }
-{
-    let relative = host.relative_pose(first_pose, second_pose);
-    host.overlap(relative, first.shape, second.shape).is_yes()
+/// All that the end of a step reads: the bodies as they were clamped, and how far each came.
+#[derive(Drop)]
+pub struct EndOfStep<'a, H> {
+    pub host: &'a H,
+    pub bodies: &'a [Slot<RigidBody>],
+    pub colliders: &'a [Slot<Collider>],
+    pub results: &'a [BodyContinuousResult],
 }
 
-/// Where a collider stands at the end of the step.
-fn end_pose<H: Host>(host: &H, bodies: &[Slot<RigidBody>], collider: &Collider) -> Pose
-    ensures { result ≡ end_pose (H.answers host.now) bodies.now collider.now }
-{
-    target_collider_pose(host, collider, parent_body(bodies, collider))
-}
-
-/// Whether two colliders, of which one is a sensor and one has the event bit, overlap neither before nor after the step.
-fn pass_each_other<H: Host>(
-    host: &H,
-    bodies: &[Slot<RigidBody>],
-    first: &Collider,
-    second: &Collider,
-) -> bool
-    ensures { result ≡ passes (H.answers host.now) bodies.now first.now second.now }
-{
-    (first.is_sensor() || second.is_sensor())
-        && (first.has_events() || second.has_events())
-        && !overlap_at(host, first, first.position, second, second.position)
-        && !overlap_at(
-            host,
-            first,
-            end_pose(host, bodies, first),
-            second,
-            end_pose(host, bodies, second),
-        )
-}
-
-/// Whether a hit is a crossing of a body that comes as far as the fraction.
-pub fn is_crossing<H: Host>(
-    host: &H,
-    bodies: &[Slot<RigidBody>],
-    colliders: &[Slot<Collider>],
-    fraction: f32,
-    hit: PseudoHit,
-) -> bool
-    ensures { result ≡ crosses (H.answers host.now) bodies.now colliders.now fraction hit }
-{
-    if !(hit.fraction < fraction) {
-        return false;
+impl<'a, H: Host> EndOfStep<'a, H> {
+    /// Whether two colliders overlap at two poses. What the host cannot tell is not yes.
+    fn overlap_at(
+        &self,
+        first: &Collider,
+        first_pose: Pose,
+        second: &Collider,
+        second_pose: Pose,
+    ) -> bool
+        ensures { result ≡ overlaps_at (H.answers self.now.host.now) first.now first_pose second.now second_pose }
+    {
+        let relative = self.host.relative_pose(first_pose, second_pose);
+        is_yes(self.host.overlap(relative, first.shape, second.shape))
     }
-    match (get(colliders, hit.first.0), get(colliders, hit.second.0)) {
-        (Some(first), Some(second)) => pass_each_other(host, bodies, first, second),
-        _ => false,
+
+    /// Where a collider stands at the end of the step.
+    fn end_pose(&self, collider: &Collider) -> Pose
+        ensures { result ≡ end_pose (H.answers self.now.host.now) self.now.bodies.now collider.now }
+    {
+        target_collider_pose(self.host, collider, parent_body(self.bodies, collider))
+    }
+
+    /// Whether two colliders, of which one is a sensor and one has the event bit, overlap neither before nor after the step.
+    fn pass_each_other(&self, first: &Collider, second: &Collider) -> bool
+        ensures { result ≡ passes (H.answers self.now.host.now) self.now.bodies.now first.now second.now }
+    {
+        (first.is_sensor() || second.is_sensor())
+            && (first.has_events() || second.has_events())
+            && !self.overlap_at(first, first.position, second, second.position)
+            && !self.overlap_at(first, self.end_pose(first), second, self.end_pose(second))
+    }
+
+    /// Whether a hit is a crossing of a body that comes as far as the fraction.
+    pub fn is_crossing(&self, fraction: f32, hit: PseudoHit) -> bool
+        ensures { result ≡ crosses (H.answers self.now.host.now) self.now.bodies.now self.now.colliders.now fraction hit }
+    {
+        let (Some(first), Some(second)) = (
+            get(self.colliders, hit.first.0),
+            get(self.colliders, hit.second.0),
+        ) else {
+            return false;
+        };
+        hit.fraction < fraction && self.pass_each_other(first, second)
     }
 }

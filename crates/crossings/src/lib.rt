@@ -6,6 +6,5 @@ mod crossing;
 mod emission;
 mod event;
 
-pub use crossing::is_crossing;
-pub use emission::emit_events;
+pub use crossing::EndOfStep;
 pub use event::CollisionEvent;

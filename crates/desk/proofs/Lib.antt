@@ -1,1 +1,1 @@
-pub mod Cuts
+pub mod LineSteps

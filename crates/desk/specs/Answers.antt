@@ -1,7 +1,7 @@
 -- What each command is answered, and what it leaves on the desk. Assumes nothing.
 use Rattle.std.specs.Prelude.{Ok, Err, Result}
 use Rattle.casts.specs.declared.flight.Flight.{Flight}
-use Rattle.casts.specs.declared.flight.CastRefusal.{CastRefusal}
+use Rattle.casts.specs.declared.refusal.CastRefusal.{CastRefusal}
 use Rattle.casts.specs.declared.report.Report.{Report}
 use Rattle.casts.specs.Singles.{flown}
 use Rattle.hosts.specs.Hosts as Hosts
@@ -14,7 +14,8 @@ use Rattle.script.specs.declared.command.Command.{Command}
 use Rattle.texts.specs.declared.trouble.Trouble.{Trouble}
 use Rattle.desk.specs.declared.answers.Answer.{Answer}
 use Rattle.desk.specs.declared.answers.Answer.TheVariants.{Silent, Hall, Unread, Cast}
-use Rattle.desk.specs.Desks.{Contents, empty_desk, hosted, box_listed, compound_listed, shape_listed, row_listed}
+use Rattle.desk.specs.Contents.{Contents}
+use Rattle.desk.specs.Desks.{empty_desk, hosted, box_listed, compound_listed, shape_listed, row_listed}
 
 -- the geometry of a hall: what is listed, as the host that was chosen answers it
 abbrev pub geometry_of : HostChoice → Contents → Hosts.Answers
@@ -30,8 +31,8 @@ obeyed c Commands.TheVariants.Blank = (c, Silent)
 obeyed c Commands.TheVariants.Hall = (empty_desk, Hall)
 obeyed c (Commands.TheVariants.Host h) = (hosted c h, Silent)
 obeyed c (Commands.TheVariants.Cuboid v) = (box_listed c v, Silent)
-obeyed c (Commands.TheVariants.Compound k) = (compound_listed c k, Silent)
-obeyed c (Commands.TheVariants.Listed t b k) = (shape_listed c t b k, Silent)
+obeyed c (Commands.TheVariants.Compound k) = (compound_listed c k.items, Silent)
+obeyed c (Commands.TheVariants.Listed t b k) = (shape_listed c t b k.items, Silent)
 obeyed c (Commands.TheVariants.Row r) = (row_listed c r, Silent)
 obeyed c (Commands.TheVariants.Cast f) = (c, Cast f.pair (cast_on c f))
 

@@ -13,7 +13,7 @@ more n = min (n + 1) (2 ^ 64 - 1)
 
 abbrev pub counted : Tally → Answer → Tally
 counted t Silent = t
-counted t Hall = record { halls = more t.halls; granted = t.granted; refused = t.refused; unread = t.unread }
-counted t (Unread e) = record { halls = t.halls; granted = t.granted; refused = t.refused; unread = more t.unread }
-counted t (Cast p (Ok r)) = record { halls = t.halls; granted = more t.granted; refused = t.refused; unread = t.unread }
-counted t (Cast p (Err e)) = record { halls = t.halls; granted = t.granted; refused = more t.refused; unread = t.unread }
+counted t Hall = record t { halls = more t.halls }
+counted t (Unread e) = record t { unread = more t.unread }
+counted t (Cast p (Ok r)) = record t { granted = more t.granted }
+counted t (Cast p (Err e)) = record t { refused = more t.refused }

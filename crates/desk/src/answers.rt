@@ -1,6 +1,5 @@
 //! The answer to each command.
-ghost use Rattle.std.specs.Prelude.{◌≡◌, MatchResult};
-ghost use Rattle.desk.specs.Desks.{contents};
+ghost use Rattle.std.specs.Prelude.{◌≡◌, IfOk, OnErr};
 ghost use Rattle.desk.specs.Answers.{cast_on, obeyed, answered};
 ghost use Rattle.script.specs.Lines.{command_of};
 
@@ -13,7 +12,7 @@ use slide::Slide;
 use std::alloc::AllocError;
 
 /// What a line of a hall script is answered.
-#[derive(Clone, Copy)]
+#[derive(Drop)]
 pub enum Answer {
     /// Nothing to say: the line listed something, or was empty.
     Silent,
@@ -28,8 +27,9 @@ pub enum Answer {
 impl Desk {
     /// Casts a flight on the host that the hall has.
     pub fn cast(&self, flight: Flight) -> Result<Report, CastRefusal>
-        ensures { result ≡ cast_on (contents self.now) flight }
+        ensures { result ≡ cast_on self.now flight }
     {
+        // a match and no `dyn`: two hosts of two types
         match self.host {
             HostChoice::Slide => cast_flight(
                 &Slide {
@@ -51,7 +51,8 @@ impl Desk {
 
     /// Does what a command says. Want of memory leaves the desk as it was.
     pub fn obey(&mut self, command: Command) -> Result<Answer, AllocError>
-        ensures { MatchResult result (λ a. (contents self.new, a) ≡ obeyed (contents self.old) command) (λ _. contents self.new ≡ contents self.old) }
+        ensures ok { IfOk result (λ answer. (self.new, answer) ≡ obeyed self.old command) }
+        ensures err { OnErr result (self.new ≡ self.old) }
     {
         match command {
             Command::Blank => {}
@@ -61,8 +62,8 @@ impl Desk {
             }
             Command::Host(host) => self.choose(host),
             Command::Cuboid(half) => self.list_box(half)?,
-            Command::Compound(children) => self.list_compound(children)?,
-            Command::Listed(kind, aabb, children) => self.list_shape(kind, aabb, children)?,
+            Command::Compound(children) => self.list_compound(&children)?,
+            Command::Listed(kind, aabb, children) => self.list_shape(kind, aabb, &children)?,
             Command::Row(row) => self.list_row(row)?,
             Command::Cast(flight) => return Ok(Answer::Cast(flight.pair, self.cast(flight))),
         }
@@ -71,7 +72,8 @@ impl Desk {
 
     /// Reads a line of a hall script and does what it says. A line that cannot be read changes nothing.
     pub fn answer(&mut self, line: &[u8]) -> Result<Answer, AllocError>
-        ensures { MatchResult result (λ a. (contents self.new, a) ≡ answered (contents self.old) (command_of line.now)) (λ _. contents self.new ≡ contents self.old) }
+        ensures ok { IfOk result (λ answer. (self.new, answer) ≡ answered self.old (command_of line.now)) }
+        ensures err { OnErr result (self.new ≡ self.old) }
     {
         match read(line) {
             Ok(command) => self.obey(command),

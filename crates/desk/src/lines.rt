@@ -1,24 +1,43 @@
 //! The lines of a text.
-ghost use Rattle.std.specs.Prelude.{◌≡◌, ◌<◌, length, drop};
-ghost use Rattle.texts.specs.Cuts.{front_of, past_of};
-ghost use Rattle.texts.specs.declared.cuts.Until.TheVariants.{Mark};
+ghost use Rattle.std.specs.Prelude.{◌≡◌};
+ghost use Rattle.std.specs.Iterator.{YieldsFirstRef, item_count};
+ghost use Rattle.desk.specs.Lines.{lines_of};
+ghost use Rattle.desk.specs.LinesLeft.{lines_left};
 
 use texts::{Until, front, past, skip};
 
 /// What ends a line.
 const LINE_FEED: Until = Until::Mark(b'\n');
 
-/// The first line of a text, without its end.
-pub fn first_line(text: &[u8]) -> &[u8]
-    ensures { result.now ≡ front_of (Mark 10) text.now }
-{
-    front(text, LINE_FEED)
+/// The lines of a text that are still to come, without their ends.
+// not `split`: a text that ends in a line feed has no line after it
+#[derive(Drop)]
+pub struct Lines<'a> {
+    text: &'a [u8],
 }
 
-/// The text after its first line.
-pub fn after_line(text: &[u8]) -> &[u8]
-    ensures value { result.now ≡ drop 1 (past_of (Mark 10) text.now) }
-    ensures shorter { 0 < length text.now → length result.now < length text.now }
-{
-    skip(past(text, LINE_FEED), 1)
+impl<'a> Lines<'a> {
+    /// All lines of a text.
+    pub fn of(text: &'a [u8]) -> Lines<'a>
+        ensures { lines_left result ≡ lines_of text.now }
+    {
+        Lines { text }
+    }
+}
+
+impl<'a> Iterator for Lines<'a> {
+    type Item = &'a [u8];
+
+    ghost next_gives = { YieldsFirstRef lines_left };
+
+    ghost remaining = { item_count lines_left };
+
+    fn next(&mut self) -> Option<&'a [u8]> {
+        if self.text.is_empty() {
+            return None;
+        }
+        let line = front(self.text, LINE_FEED);
+        self.text = skip(past(self.text, LINE_FEED), 1);
+        Some(line)
+    }
 }

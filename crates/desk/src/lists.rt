@@ -1,6 +1,6 @@
 //! What a hall lists.
-ghost use Rattle.std.specs.Prelude.{◌≡◌, length, MatchResult};
-ghost use Rattle.desk.specs.Desks.{contents, empty_desk, hosted, box_listed, compound_listed, shape_listed, row_listed, shape_added, listed_added, children_kept, children_cut};
+ghost use Rattle.std.specs.Prelude.{◌≡◌, ◌++◌, length, IfOk, OnOk, OnErr};
+ghost use Rattle.desk.specs.Desks.{empty_desk, hosted, box_listed, compound_listed, shape_listed, row_listed};
 
 use geometry::{Aabb, ShapeKind, Vector};
 use hosts::Child;
@@ -8,21 +8,42 @@ use recorded::{Listed, Row};
 use script::{Children, HostChoice};
 use slide::Shape;
 use std::alloc::{AllocError, Global};
+use std::marker::Model;
 
 /// The shapes, children and rows of a hall, and which host answers for them.
 #[derive(Drop)]
 pub struct Desk {
-    pub host: HostChoice,
-    pub shapes: Vec<Shape>,
-    pub listed: Vec<Listed>,
-    pub children: Vec<Child>,
-    pub rows: Vec<Row>,
+    pub(crate) host: HostChoice,
+    pub(crate) shapes: Vec<Shape>,
+    pub(crate) listed: Vec<Listed>,
+    pub(crate) children: Vec<Child>,
+    pub(crate) rows: Vec<Row>,
+}
+
+impl Model for Desk {
+    ghost use Rattle.std.specs.Prelude.{vec_items};
+    ghost use Rattle.desk.specs.Contents.{Contents};
+
+    ghost Value = { Contents };
+
+    ghost view = { λ d. record { host = d.host; shapes = vec_items d.shapes; listed = vec_items d.listed; children = vec_items d.children; rows = vec_items d.rows } };
+}
+
+/// Puts the children of a Compound at the end of the list, and says which part of it they are: its first place and its length.
+fn keep(list: &mut Vec<Child>, children: &Children) -> Result<(u32, u32), AllocError>
+    ensures part { IfOk result (λ part. part ≡ (length list.old.items, length children.now.items)) }
+    ensures ok { OnOk result (list.new.items ≡ list.old.items ++ children.now.items) }
+    ensures err { OnErr result (list.new.items ≡ list.old.items) }
+{
+    let first = u32::try_from(list.len()).map_err(|_| AllocError)?;
+    list.extend_from_slice(children.as_slice())?;
+    Ok((first, children.len() as u32))
 }
 
 impl Desk {
     /// A desk with nothing on it; the slide host answers.
     pub fn new(heap: Global) -> Desk
-        ensures { contents result ≡ empty_desk }
+        ensures { result ≡ empty_desk }
     {
         Desk {
             host: HostChoice::Slide,
@@ -35,7 +56,7 @@ impl Desk {
 
     /// Forgets everything.
     pub fn clear(&mut self)
-        ensures { contents self.new ≡ empty_desk }
+        ensures { self.new ≡ empty_desk }
     {
         self.host = HostChoice::Slide;
         self.shapes.clear();
@@ -46,65 +67,29 @@ impl Desk {
 
     /// Lets another host answer.
     pub fn choose(&mut self, host: HostChoice)
-        ensures { contents self.new ≡ hosted (contents self.old) host }
+        ensures { self.new ≡ hosted self.old host }
     {
         self.host = host;
     }
 
-    /// Lists a shape of the slide host.
-    fn add_shape(&mut self, shape: Shape) -> Result<(), AllocError>
-        ensures { MatchResult result (λ _. contents self.new ≡ shape_added (contents self.old) shape) (λ _. contents self.new ≡ contents self.old) }
-    {
-        self.shapes.push(shape)?;
-        Ok(())
-    }
-
-    /// Lists a shape of the recorded host.
-    fn add_listed(&mut self, shape: Listed) -> Result<(), AllocError>
-        ensures { MatchResult result (λ _. contents self.new ≡ listed_added (contents self.old) shape) (λ _. contents self.new ≡ contents self.old) }
-    {
-        self.listed.push(shape)?;
-        Ok(())
-    }
-
-    /// Keeps the children of a Compound, and says where they begin.
-    fn keep(&mut self, children: Children) -> Result<u32, AllocError>
-        ensures { MatchResult result (λ first. (first ≡ length (contents self.old).children) × (contents self.new ≡ children_kept (contents self.old) children)) (λ _. contents self.new ≡ contents self.old) }
-    {
-        let Ok(first) = u32::try_from(self.children.len()) else {
-            return Err(AllocError);
-        };
-        let count = (children.count as usize).min(16);
-        self.children.extend_from_slice(&children.list[0..count])?;
-        Ok(first)
-    }
-
-    /// Forgets the children from a place on.
-    fn forget(&mut self, first: u32)
-        ensures { contents self.new ≡ children_cut (contents self.old) first }
-    {
-        self.children.truncate(first as usize);
-    }
-
     /// Lists a box of the slide host.
     pub fn list_box(&mut self, half: Vector) -> Result<(), AllocError>
-        ensures { MatchResult result (λ _. contents self.new ≡ box_listed (contents self.old) half) (λ _. contents self.new ≡ contents self.old) }
+        ensures ok { OnOk result (self.new ≡ box_listed self.old half) }
+        ensures err { OnErr result (self.new ≡ self.old) }
     {
-        self.add_shape(Shape::Cuboid(half))
+        self.shapes.push(Shape::Cuboid(half))?;
+        Ok(())
     }
 
     /// Lists a Compound of the slide host, with its children.
-    pub fn list_compound(&mut self, children: Children) -> Result<(), AllocError>
-        ensures { MatchResult result (λ _. contents self.new ≡ compound_listed (contents self.old) children) (λ _. contents self.new ≡ contents self.old) }
+    pub fn list_compound(&mut self, children: &Children) -> Result<(), AllocError>
+        ensures ok { OnOk result (self.new ≡ compound_listed self.old children.now.items) }
+        ensures err { OnErr result (self.new ≡ self.old) }
     {
-        let first = self.keep(children)?;
-        match self.add_shape(Shape::Group(first, children.count)) {
-            Ok(()) => Ok(()),
-            Err(error) => {
-                self.forget(first);
-                Err(error)
-            }
-        }
+        self.shapes.reserve(1)?;
+        let (first, count) = keep(&mut self.children, children)?;
+        self.shapes.push(Shape::Group { first, count }).unwrap();
+        Ok(())
     }
 
     /// Lists a shape of the recorded host, with its children if it is a Compound.
@@ -112,29 +97,27 @@ impl Desk {
         &mut self,
         kind: ShapeKind,
         aabb: Aabb,
-        children: Children,
+        children: &Children,
     ) -> Result<(), AllocError>
-        ensures { MatchResult result (λ _. contents self.new ≡ shape_listed (contents self.old) kind aabb children) (λ _. contents self.new ≡ contents self.old) }
+        ensures ok { OnOk result (self.new ≡ shape_listed self.old kind aabb children.now.items) }
+        ensures err { OnErr result (self.new ≡ self.old) }
     {
-        let first = self.keep(children)?;
+        self.listed.reserve(1)?;
+        let (first, count) = keep(&mut self.children, children)?;
         let shape = Listed {
             kind,
             aabb,
             first,
-            count: children.count,
+            count,
         };
-        match self.add_listed(shape) {
-            Ok(()) => Ok(()),
-            Err(error) => {
-                self.forget(first);
-                Err(error)
-            }
-        }
+        self.listed.push(shape).unwrap();
+        Ok(())
     }
 
     /// Lists a row of the recorded host.
     pub fn list_row(&mut self, row: Row) -> Result<(), AllocError>
-        ensures { MatchResult result (λ _. contents self.new ≡ row_listed (contents self.old) row) (λ _. contents self.new ≡ contents self.old) }
+        ensures ok { OnOk result (self.new ≡ row_listed self.old row) }
+        ensures err { OnErr result (self.new ≡ self.old) }
     {
         self.rows.push(row)?;
         Ok(())

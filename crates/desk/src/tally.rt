@@ -5,7 +5,7 @@ ghost use Rattle.desk.specs.Tallies.{empty_tally, counted};
 use crate::answers::Answer;
 
 /// How many halls began, how many casts were granted and refused, and how many lines could not be read.
-#[derive(Clone, Copy)]
+#[derive(Clone, Copy, Default, Debug, PartialEq, Eq)]
 pub struct Tally {
     pub halls: u64,
     pub granted: u64,
@@ -18,18 +18,14 @@ impl Tally {
     pub fn new() -> Tally
         ensures { result ≡ empty_tally }
     {
-        Tally {
-            halls: 0,
-            granted: 0,
-            refused: 0,
-            unread: 0,
-        }
+        Tally::default()
     }
 
     /// Counts an answer; the counts stop at their last number.
-    pub fn count(&mut self, answer: Answer)
-        ensures { self.new ≡ counted self.old answer }
+    pub fn count(&mut self, answer: &Answer)
+        ensures { self.new ≡ counted self.old answer.now }
     {
+        // Tried: one `&mut` to the count that grows. Its proof knows nothing of the other counts after a `match` that picks it.
         match answer {
             Answer::Silent => {}
             Answer::Hall => self.halls = self.halls.saturating_add(1),

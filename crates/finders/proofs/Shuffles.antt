@@ -1,7 +1,7 @@
 -- Two lists without repetition that have the same members are in some order the same. Assumes nothing.
-use Rattle.std.proofs.Common.{◌≡◌, List, [], ◌∷◌, ◌++◌, sym, refl, subst, inl, inr, arith}
+use Rattle.std.proofs.Common.{◌≡◌, List, [], ◌∷◌, ◌++◌, sym, refl, subst, inl, inr}
 use Rattle.std.specs.List.Sorted.{IsPermutation}
-use Rattle.std.proofs.lemmas.List.Sorted.{IsPermutation-refl, IsPermutation-cons, IsPermutation-swap, IsPermutation-trans}
+use Rattle.std.proofs.lemmas.List.Sorted.{IsPermutation-refl, IsPermutation-cons, IsPermutation-sym, IsPermutation-middle, IsPermutation-trans}
 use Rattle.finders.specs.Members.{In, Distinct}
 use Rattle.finders.specs.TableLaws.{in_left, in_right, in_cases}
 
@@ -37,13 +37,6 @@ module _ {X : Type 0} (x : X) (r : List X) where
   not_again (y ∷ l) d (inl e) = d.0 (in_right y l (x ∷ r) (inl (sym e)))
   not_again (y ∷ l) d (inr i) = not_again l d.1 i
 
-  moved_in : (l : List X) → IsPermutation (x ∷ (l ++ r)) (l ++ x ∷ r)
-  moved_in [] = IsPermutation-refl (x ∷ r)
-  moved_in (y ∷ l) =
-      IsPermutation-trans (x ∷ y ∷ (l ++ r)) (y ∷ x ∷ (l ++ r)) (y ∷ (l ++ x ∷ r))
-      (IsPermutation-swap (x ∷ y ∷ (l ++ r)) (y ∷ x ∷ (l ++ r)) 0 1 (omega arith) (omega arith) refl)
-      (IsPermutation-cons y (x ∷ (l ++ r)) (l ++ x ∷ r) (moved_in l))
-
 pub shuffled_members : {X : Type 0} (xs ys : List X) → Distinct xs → Distinct ys → ((x : X) → In x xs → In x ys) → ((x : X) → In x ys → In x xs) → IsPermutation xs ys
 shuffled_members [] [] d e f g = IsPermutation-refl []
 shuffled_members [] (y ∷ ys) d e f g = absurd (g y (inl refl))
@@ -56,4 +49,4 @@ shuffled_members {X} (x ∷ xs) ys d e f g =
     let back : (y : X) → In y (l ++ r) → In y xs =
     λ y i. elim (g y (subst (In y) (sym s.is) (one_more x r y l i))) [ inl k ↦ absurd (not_again x r l e' (subst (λ z. In z (l ++ r)) k i)) | inr j ↦ j ] in
     subst (IsPermutation (x ∷ xs)) (sym s.is)
-    (IsPermutation-trans (x ∷ xs) (x ∷ (l ++ r)) (l ++ x ∷ r) (IsPermutation-cons x xs (l ++ r) (shuffled_members xs (l ++ r) d.1 (rest_distinct x r l e') there back)) (moved_in x r l))
+    (IsPermutation-trans (x ∷ xs) (x ∷ (l ++ r)) (l ++ x ∷ r) (IsPermutation-cons x xs (l ++ r) (shuffled_members xs (l ++ r) d.1 (rest_distinct x r l e') there back)) (IsPermutation-sym (l ++ x ∷ r) (x ∷ (l ++ r)) (IsPermutation-middle l x r)))

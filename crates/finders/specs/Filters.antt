@@ -1,5 +1,6 @@
 -- Which pairs of colliders a filter keeps. Assumes nothing.
-use Rattle.std.specs.Prelude.{◌≡◌, Bool, false, not, ◌&&◌, ◌||◌, ◌⊎◌, List, [], ◌∷◌, take}
+use Rattle.std.specs.Prelude.{◌≡◌, Bool, false, not, ◌&&◌, ◌||◌, ◌⊎◌, List, take}
+use Rattle.std.specs.List.{list_any}
 use Rattle.geometry.specs.declared.handle.ColliderHandle.{ColliderHandle}
 use Rattle.geometry.specs.Handles.{same}
 use Rattle.finders.specs.declared.barred_pairs.BarredPair.{BarredPair}
@@ -13,8 +14,7 @@ abbrev pub bars : BarredPair → ColliderHandle → ColliderHandle → Bool
 bars x a b = (same_collider x.first a && same_collider x.second b) || (same_collider x.first b && same_collider x.second a)
 
 abbrev pub barred_in : List BarredPair → ColliderHandle → ColliderHandle → Bool
-barred_in [] a b = false
-barred_in (x ∷ xs) a b = bars x a b || barred_in xs a b
+barred_in xs a b = list_any (λ x. bars x a b) xs
 
 -- only the first 64 pairs count
 abbrev pub keeps_of : List BarredPair → ColliderHandle → ColliderHandle → Bool

@@ -1,9 +1,10 @@
 -- The laws of a finder. Assumes nothing.
-use Rattle.std.specs.Prelude.{◌≡◌, ℕ, ◌≤◌, true, false, T, ◌⊎◌, List, [], length, Some, None, ◌≢◌, Float}
+use Rattle.std.specs.Prelude.{◌≡◌, ℕ, ◌<◌, ◌≤◌, T, Err, IsOk, IsErr, List, [], length, Some, None, ◌≢◌, Float}
 use Rattle.std.specs.List.Sorted.{IsPermutation}
 use Rattle.geometry.specs.declared.handle.ColliderHandle.{ColliderHandle}
 use Rattle.geometry.specs.declared.aabb.Aabb.{Aabb}
 use Rattle.geometry.specs.Boxes.{loosened_by, meet_of}
+use Rattle.finders.specs.declared.finder_fault.FinderFault.TheVariants.{PastTheLastSlot, Full}
 use Rattle.finders.specs.Members.{In, Distinct}
 use Rattle.finders.specs.Finders.{Held, Meaning, Listing, empty, slot_of, entry_at, box_of, held_count, meets, set_in, remove_in}
 
@@ -41,12 +42,13 @@ pub record EmptyLaws : Type 0 where
 
 pub record SettingLaws : Type 0 where
   -- what was set is held, in the place of what its slot held; other slots are as they were
-  pub held : (m : Meaning) (c : ColliderHandle) (b : Aabb) → (set_in m c b).1 ≡ true → box_of (set_in m c b).0.held c ≡ Some b
-  pub replaced : (m : Meaning) (c d : ColliderHandle) (b : Aabb) → (set_in m c b).1 ≡ true → slot_of d ≡ slot_of c → (d ≢ c) → box_of (set_in m c b).0.held d ≡ None
+  pub held : (m : Meaning) (c : ColliderHandle) (b : Aabb) → IsOk (set_in m c b).1 → box_of (set_in m c b).0.held c ≡ Some b
+  pub replaced : (m : Meaning) (c d : ColliderHandle) (b : Aabb) → IsOk (set_in m c b).1 → slot_of d ≡ slot_of c → (d ≢ c) → box_of (set_in m c b).0.held d ≡ None
   pub others : (m : Meaning) (c d : ColliderHandle) (b : Aabb) → (slot_of d ≢ slot_of c) → box_of (set_in m c b).0.held d ≡ box_of m.held d
-  -- a refusal changes nothing, and comes only for a slot that holds nothing, and that is past the last place or would exceed the capacity
-  pub refused : (m : Meaning) (c : ColliderHandle) (b : Aabb) → (set_in m c b).1 ≡ false → (set_in m c b).0 ≡ m
-  pub refused_only : (m : Meaning) (c : ColliderHandle) (b : Aabb) → (set_in m c b).1 ≡ false → (entry_at m.held (slot_of c) ≡ None) × ((length m.held ≤ slot_of c) ⊎ (m.capacity ≤ held_count m.held))
+  -- a refusal changes nothing, and comes only for a slot that holds nothing: one past the last place, or one more than the capacity
+  pub refused : (m : Meaning) (c : ColliderHandle) (b : Aabb) → IsErr (set_in m c b).1 → ((set_in m c b).0 ≡ m) × (entry_at m.held (slot_of c) ≡ None)
+  pub past : (m : Meaning) (c : ColliderHandle) (b : Aabb) → (set_in m c b).1 ≡ Err PastTheLastSlot → length m.held ≤ slot_of c
+  pub full : (m : Meaning) (c : ColliderHandle) (b : Aabb) → (set_in m c b).1 ≡ Err Full → (slot_of c < length m.held) × (m.capacity ≤ held_count m.held)
   -- setting twice is setting the last
   pub twice : (m : Meaning) (c : ColliderHandle) (a b : Aabb) → set_in (set_in m c a).0 c b ≡ set_in m c b
   -- capacity and slots are kept, and the capacity is not exceeded
@@ -64,7 +66,7 @@ pub record RemovingLaws : Type 0 where
 
 pub record ReportingLaws : Type 0 where
   -- what was set is reported while its box meets; what was removed is not
-  pub set : (m : Meaning) (c : ColliderHandle) (b q : Aabb) (p : Float) (cs : List ColliderHandle) → (set_in m c b).1 ≡ true → T (meet_of (loosened_by b p) q) → Lists (set_in m c b).0.held q p cs → In c cs
+  pub set : (m : Meaning) (c : ColliderHandle) (b q : Aabb) (p : Float) (cs : List ColliderHandle) → IsOk (set_in m c b).1 → T (meet_of (loosened_by b p) q) → Lists (set_in m c b).0.held q p cs → In c cs
   pub removed : (m : Meaning) (c : ColliderHandle) (q : Aabb) (p : Float) (cs : List ColliderHandle) → Lists (remove_in m c).held q p cs → In c cs → ⊥
   -- of two that hold alike, each one's report is the other's in some order
   pub alike : (h k : Held) (q : Aabb) (p : Float) (cs ds : List ColliderHandle) → Alike h k → Lists h q p cs → Lists k q p ds → IsPermutation cs ds

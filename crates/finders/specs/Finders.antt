@@ -1,9 +1,11 @@
 -- What a finder holds, and what setting, removing and reporting make of it. Assumes nothing.
-use Rattle.std.specs.Prelude.{ℕ, Bool, true, false, cond, ◌&&◌, ◌||◌, List, length, replicate, is_some, Some, None, count_by, Option, ◌==◌, nat_lt, slice_index_or, slice_set, Float}
+use Rattle.std.specs.Prelude.{ℕ, Bool, false, cond, Result, Ok, Err, ◌&&◌, ◌||◌, List, length, replicate, is_some, Some, None, count_by, Option, ◌==◌, nat_lt, slice_index_or, slice_set, Float}
 use Rattle.geometry.specs.declared.handle.ColliderHandle.{ColliderHandle}
 use Rattle.geometry.specs.declared.aabb.Aabb.{Aabb}
 use Rattle.geometry.specs.Boxes.{loosened_by, meet_of}
 use Rattle.finders.specs.declared.entry.Entry.{Entry}
+use Rattle.finders.specs.declared.finder_fault.FinderFault.{FinderFault}
+use Rattle.finders.specs.declared.finder_fault.FinderFault.TheVariants.{PastTheLastSlot, Full}
 
 abbrev pub slot_of : ColliderHandle → ℕ
 slot_of c = c.0.slot
@@ -55,12 +57,16 @@ held_count h = count_by is_some h
 abbrev pub takes : Meaning → ColliderHandle → Bool
 takes m c = nat_lt (slot_of c) (length m.held) && (is_some (entry_at m.held (slot_of c)) || nat_lt (held_count m.held) m.capacity)
 
+-- why a collider is refused: there is no such slot, or no room for one more
+abbrev pub fault_of : Meaning → ColliderHandle → FinderFault
+fault_of m c = cond (nat_lt (slot_of c) (length m.held)) Full PastTheLastSlot
+
 abbrev pub put_at : Meaning → ℕ → Option Entry → Meaning
 put_at m s e = record { capacity = m.capacity; held = slice_set m.held s e }
 
 -- a collider's box added, or put in the place of what its slot held; else refused, with nothing changed
-abbrev pub set_in : Meaning → ColliderHandle → Aabb → Meaning × Bool
-set_in m c b = cond (takes m c) (put_at m (slot_of c) (Some (entry_of c b)), true) (m, false)
+abbrev pub set_in : Meaning → ColliderHandle → Aabb → Meaning × Result Unit FinderFault
+set_in m c b = cond (takes m c) (put_at m (slot_of c) (Some (entry_of c b)), Ok tt) (m, Err (fault_of m c))
 
 -- the entry of that very collider removed; one of another generation stays
 abbrev pub remove_in : Meaning → ColliderHandle → Meaning

@@ -1,6 +1,6 @@
 //! A filter that drops listed pairs.
-ghost use Rattle.std.specs.Prelude.{◌≡◌, min};
-ghost use Rattle.finders.specs.Filters.{bars, barred_in, keeps_of};
+ghost use Rattle.std.specs.Prelude.{◌≡◌};
+ghost use Rattle.finders.specs.Filters.{bars, keeps_of};
 ghost use Rattle.finders.specs.FilterLaws.{barred_symmetric};
 
 use crate::filter::Filter;
@@ -22,30 +22,13 @@ pub struct BarredPairs<'a> {
     pub pairs: &'a [BarredPair],
 }
 
-/// Whether the pair is these two, in either order.
-fn is_barred_by(pair: BarredPair, first: ColliderHandle, second: ColliderHandle) -> bool
-    ensures { result ≡ bars pair first second }
-{
-    pair.first.0.is(first.0) && pair.second.0.is(second.0)
-        || pair.first.0.is(second.0) && pair.second.0.is(first.0)
-}
-
-fn is_barred(pairs: &[BarredPair], first: ColliderHandle, second: ColliderHandle) -> bool
-    ensures { result ≡ barred_in pairs.now first second }
-{
-    for pair in pairs {
-        if is_barred_by(*pair, first, second) {
-            return true;
-        }
+impl BarredPair {
+    /// Whether the pair is these two, in either order.
+    fn bars(self, first: ColliderHandle, second: ColliderHandle) -> bool
+        ensures { result ≡ bars self first second }
+    {
+        (self.first, self.second) == (first, second) || (self.first, self.second) == (second, first)
     }
-    false
-}
-
-/// How many of the listed pairs count.
-fn counted(listed: usize) -> usize
-    ensures { result ≡ min listed 64 }
-{
-    listed.min(MOST_PAIRS)
 }
 
 impl<'a> Filter for BarredPairs<'a> {
@@ -54,7 +37,10 @@ impl<'a> Filter for BarredPairs<'a> {
     ghost symmetric = { λ f. barred_symmetric f.pairs.now };
 
     fn keep(&self, first: ColliderHandle, second: ColliderHandle) -> bool {
-        let count = counted(self.pairs.len());
-        !is_barred(&self.pairs[0..count], first, second)
+        !self
+            .pairs
+            .iter()
+            .take(MOST_PAIRS)
+            .any(|pair| pair.bars(first, second))
     }
 }

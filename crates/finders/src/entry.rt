@@ -1,6 +1,6 @@
 //! What a finder holds in a slot.
-ghost use Rattle.std.specs.Prelude.{◌≡◌, is_some};
-ghost use Rattle.finders.specs.Finders.{entry_of, box_in};
+ghost use Rattle.std.specs.Prelude.{◌≡◌};
+ghost use Rattle.finders.specs.Finders.{entry_of};
 
 use geometry::{Aabb, ColliderHandle};
 
@@ -20,22 +20,5 @@ impl Entry {
             generation: collider.0.generation,
             aabb,
         }
-    }
-}
-
-/// Whether a slot holds something.
-pub(crate) fn is_held(entry: Option<Entry>) -> bool
-    ensures { result ≡ is_some entry }
-{
-    entry.is_some()
-}
-
-/// Whether a slot holds the collider of a generation.
-pub(crate) fn is_of(entry: Option<Entry>, generation: u32) -> bool
-    ensures { result ≡ is_some (box_in entry generation) }
-{
-    match entry {
-        Some(entry) => entry.generation == generation,
-        None => false,
     }
 }

@@ -3,6 +3,7 @@ ghost use Rattle.std.specs.Prelude.{◌≡◌, min, length, take, drop};
 ghost use Rattle.finders.specs.Finders.{Meaning, Listing, cleared, set_in, remove_in};
 ghost use Rattle.finders.specs.FinderLaws.{Lawful};
 
+use crate::finder_fault::FinderFault;
 use geometry::{Aabb, ColliderHandle};
 
 /// Holds a box for each of some colliders, at most one for each slot, and finds those that meet a box.
@@ -20,9 +21,9 @@ pub trait Finder {
     fn capacity(&self) -> usize
         ensures { result ≡ (meaning self.now).capacity };
 
-    /// Holds a collider's box, in the place of what its slot held. It answers false, and changes nothing, only for a slot that holds
-    /// nothing, if that lies past its last slot or the capacity is reached.
-    fn set(&mut self, collider: ColliderHandle, aabb: Aabb) -> bool
+    /// Holds a collider's box, in the place of what its slot held. It refuses, and changes nothing, only for a slot that holds nothing,
+    /// if that lies past its last slot or the capacity is reached.
+    fn set(&mut self, collider: ColliderHandle, aabb: Aabb) -> Result<(), FinderFault>
         ensures { (meaning self.new, result) ≡ set_in (meaning self.old) collider aabb };
 
     /// Removes a collider, if it is held. A collider of another generation of the slot stays.
@@ -33,6 +34,7 @@ pub trait Finder {
     fn clear(&mut self)
         ensures { meaning self.new ≡ cleared (meaning self.old) };
 
+    // `aabb` and `p` come from two places, the box that is swept and the step: a struct of both would be made for this call alone.
     /// Writes the colliders whose box, loosened by `p`, meets `aabb` to the front of `out`, as far as there is room, and says how many it wrote.
     fn report(&self, aabb: Aabb, p: f32, out: &mut [ColliderHandle]) -> usize
         ensures count { result ≡ min (length (listed self.now aabb p)) (length out.old) }

@@ -1,12 +1,13 @@
 //! Laws of finders and filters, each on the contract of a function.
-ghost use Rattle.std.specs.Prelude.{◌≡◌, ◌<◌, true};
+ghost use Rattle.std.specs.Prelude.{◌≡◌, ◌<◌, true, OnOk};
 ghost use Rattle.finders.specs.Finders.{slot_of, takes, set_in, remove_in};
 ghost use Rattle.finders.specs.FinderLaws.{Alike, ReportedWhileMet, NeverReported, ReportAlike, EmptyLaws, SettingLaws, RemovingLaws, ReportingLaws};
 ghost use Rattle.finders.specs.Tables.{table_meaning};
 ghost use Rattle.finders.specs.Filters.{BarringLaws};
 
 use crate::finder::Finder;
-use crate::leaf_table::LeafTable;
+use crate::finder_fault::FinderFault;
+use crate::table::LeafTable;
 use geometry::{Aabb, ColliderHandle};
 
 /// What is opened empty holds nothing, and nothing is reported of it.
@@ -30,9 +31,13 @@ pub fn reports_follow_what_is_held()
 {}
 
 /// Sets a collider's box. If that is granted, the finder, whatever it is, then reports the collider of each box that is met.
-pub fn set_to_be_reported<D: Finder>(finder: &mut D, collider: ColliderHandle, aabb: Aabb) -> bool
+pub fn set_to_be_reported<D: Finder>(
+    finder: &mut D,
+    collider: ColliderHandle,
+    aabb: Aabb,
+) -> Result<(), FinderFault>
     ensures set { (D.meaning finder.new, result) ≡ set_in (D.meaning finder.old) collider aabb }
-    ensures reported { result ≡ true → ReportedWhileMet (D.listed finder.new) collider aabb }
+    ensures reported { OnOk result (ReportedWhileMet (D.listed finder.new) collider aabb) }
 {
     finder.set(collider, aabb)
 }

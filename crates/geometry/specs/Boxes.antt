@@ -1,7 +1,8 @@
 -- Boxes with a least and a greatest number on each axis. Assumes nothing.
-use Rattle.std.specs.Prelude.{Bool, cond, ◌&&◌, T, Float}
-use Rattle.std.specs.Float.Ieee.{le, lt}
+use Rattle.std.specs.Prelude.{Bool, ◌&&◌, T, Float}
+use Rattle.std.specs.Float.Ieee.{le}
 use Rattle.std.specs.Float.Ieee.Scale.{finite}
+use Rattle.numbers.specs.Picks.{lesser_of, greater_of}
 use Rattle.geometry.specs.declared.vector.Vector.{Vector}
 use Rattle.geometry.specs.declared.aabb.Aabb.{Aabb}
 use Rattle.geometry.specs.Vectors.{vector, uniform, sum_of, difference_of}
@@ -19,18 +20,12 @@ moved_by b place = box (sum_of place b.mins) (sum_of place b.maxs)
 abbrev pub loosened_by : Aabb → Float → Aabb
 loosened_by b by = box (difference_of b.mins (uniform by)) (sum_of b.maxs (uniform by))
 
-abbrev pub lower_of : Float → Float → Float
-lower_of a b = cond (lt b a) b a
-
-abbrev pub upper_of : Float → Float → Float
-upper_of a b = cond (lt a b) b a
-
 -- the least box that holds both
 abbrev pub merged_of : Aabb → Aabb → Aabb
 merged_of a b =
     box
-    (vector (lower_of a.mins.x b.mins.x) (lower_of a.mins.y b.mins.y) (lower_of a.mins.z b.mins.z))
-    (vector (upper_of a.maxs.x b.maxs.x) (upper_of a.maxs.y b.maxs.y) (upper_of a.maxs.z b.maxs.z))
+    (vector (lesser_of a.mins.x b.mins.x) (lesser_of a.mins.y b.mins.y) (lesser_of a.mins.z b.mins.z))
+    (vector (greater_of a.maxs.x b.maxs.x) (greater_of a.maxs.y b.maxs.y) (greater_of a.maxs.z b.maxs.z))
 
 -- on no axis one's least exceeds the other's greatest
 abbrev pub meet_of : Aabb → Aabb → Bool

@@ -1,5 +1,7 @@
 -- The kinds of bodies and shapes, and the numbers that stand for them outside. Assumes nothing.
-use Rattle.std.specs.Prelude.{◌≡◌, ℕ, Bool, true, false, cond, Some, None, Option, ◌==◌}
+use Rattle.std.specs.Prelude.{◌≡◌, ℕ, Bool, true, false, cond, Some, None, Option, Result, ◌==◌}
+use Rattle.std.specs.Option.{ok_or}
+use Rattle.geometry.specs.declared.unknown_number.UnknownNumber.{UnknownNumber}
 use Rattle.geometry.specs.declared.rigid_body_type.RigidBodyType.{RigidBodyType}
 use Rattle.geometry.specs.declared.rigid_body_type.RigidBodyType.TheVariants.{Dynamic, Fixed, KinematicPositionBased, KinematicVelocityBased}
 use Rattle.geometry.specs.declared.shape_kind.ShapeKind.{ShapeKind}
@@ -37,6 +39,10 @@ shape_kind_of n =
     (cond (n == 4) (Some HeightField)
     (cond (n == 5) (Some Voxels)
     (cond (n == 6) (Some Other) None))))))
+
+-- the kind that a number stands for, or that it stands for none
+abbrev pub kind_or_unknown : {K : Type 0} → (ℕ → Option K) → ℕ → Result K UnknownNumber
+kind_or_unknown kind_of n = ok_or (kind_of n) (record { 0 = n })
 
 -- a target of this kind takes composite casts
 abbrev pub is_composite : ShapeKind → Bool

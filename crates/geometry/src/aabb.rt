@@ -1,26 +1,15 @@
 //! Boxes with a least and a greatest number on each axis.
 ghost use Rattle.std.specs.Prelude.{◌≡◌};
-ghost use Rattle.geometry.specs.Boxes.{around_of, moved_by, loosened_by, merged_of, meet_of, lower_of, upper_of};
+ghost use Rattle.geometry.specs.Boxes.{around_of, moved_by, loosened_by, merged_of, meet_of};
 
 use crate::vector::Vector;
+use numbers::{greater, lesser};
 
 /// A box by its least and its greatest number on each axis.
-#[derive(Clone, Copy)]
+#[derive(Clone, Copy, PartialEq, Debug)]
 pub struct Aabb {
     pub mins: Vector,
     pub maxs: Vector,
-}
-
-fn lower(a: f32, b: f32) -> f32
-    ensures { result ≡ lower_of a b }
-{
-    if b < a { b } else { a }
-}
-
-fn upper(a: f32, b: f32) -> f32
-    ensures { result ≡ upper_of a b }
-{
-    if a < b { b } else { a }
 }
 
 impl Aabb {
@@ -60,14 +49,14 @@ impl Aabb {
     {
         Aabb {
             mins: Vector {
-                x: lower(self.mins.x, other.mins.x),
-                y: lower(self.mins.y, other.mins.y),
-                z: lower(self.mins.z, other.mins.z),
+                x: lesser(self.mins.x, other.mins.x),
+                y: lesser(self.mins.y, other.mins.y),
+                z: lesser(self.mins.z, other.mins.z),
             },
             maxs: Vector {
-                x: upper(self.maxs.x, other.maxs.x),
-                y: upper(self.maxs.y, other.maxs.y),
-                z: upper(self.maxs.z, other.maxs.z),
+                x: greater(self.maxs.x, other.maxs.x),
+                y: greater(self.maxs.y, other.maxs.y),
+                z: greater(self.maxs.z, other.maxs.z),
             },
         }
     }

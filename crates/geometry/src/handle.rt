@@ -1,6 +1,4 @@
 //! Names of records: a slot, and the generation of that slot.
-ghost use Rattle.std.specs.Prelude.{◌≡◌, Decides};
-ghost use Rattle.geometry.specs.Handles.{same};
 
 /// Names a record: the slot that holds it, and the generation of that slot.
 #[derive(Clone, Copy, PartialEq, Eq, Debug)]
@@ -10,19 +8,10 @@ pub struct Handle {
 }
 
 /// Names a body.
+// two newtypes of a line each: a `Handle<T>` with a marker for each would be no plainer
 #[derive(Clone, Copy, PartialEq, Eq, Debug)]
 pub struct RigidBodyHandle(pub Handle);
 
 /// Names a collider.
 #[derive(Clone, Copy, PartialEq, Eq, Debug)]
 pub struct ColliderHandle(pub Handle);
-
-impl Handle {
-    /// Whether both name the same record: equal slots and equal generations.
-    pub fn is(self, other: Handle) -> bool
-        ensures value { result ≡ same self other }
-        ensures decides { Decides result (self ≡ other) }
-    {
-        self == other
-    }
-}

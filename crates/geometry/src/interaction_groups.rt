@@ -2,41 +2,49 @@
 //! changed: see NOTICE.
 ghost use Rattle.std.specs.Prelude.{◌≡◌};
 ghost use Rattle.geometry.specs.Groups.{all_groups, no_groups, agree_and, agree_or, agree, mode_number, mode_of};
+ghost use Rattle.geometry.specs.Kinds.{kind_or_unknown};
+
+use crate::unknown_number::UnknownNumber;
 
 /// How two masks are tested against each other.
-#[derive(Clone, Copy)]
+#[derive(Clone, Copy, PartialEq, Eq, Debug)]
 pub enum InteractionTestMode {
     And,
     Or,
 }
 
 /// The groups that a collider belongs to, those that it interacts with, and how the two are tested.
-#[derive(Clone, Copy)]
+#[derive(Clone, Copy, PartialEq, Eq, Debug)]
 pub struct InteractionGroups {
     pub memberships: u32,
     pub filter: u32,
     pub mode: InteractionTestMode,
 }
 
-impl InteractionTestMode {
-    /// The number that stands for it outside: 0 or 1.
-    pub fn number(self) -> u8
-        ensures { result ≡ mode_number self }
-    {
-        match self {
+/// The number that stands for it outside: 0 or 1.
+impl From<InteractionTestMode> for u8 {
+    ghost from_gives = { λ mode number. number ≡ mode_number mode };
+
+    // no `mode as u8`: a number may not move where a case is put between others
+    fn from(mode: InteractionTestMode) -> u8 {
+        match mode {
             InteractionTestMode::And => 0,
             InteractionTestMode::Or => 1,
         }
     }
+}
 
-    /// The mode that a number stands for; none above 1.
-    pub fn from_number(number: u8) -> Option<InteractionTestMode>
-        ensures { result ≡ mode_of number }
-    {
+/// The mode that a number stands for; none above 1.
+impl TryFrom<u8> for InteractionTestMode {
+    type Error = UnknownNumber;
+
+    ghost try_from_gives = { λ number mode. mode ≡ kind_or_unknown mode_of number };
+
+    fn try_from(number: u8) -> Result<InteractionTestMode, UnknownNumber> {
         match number {
-            0 => Some(InteractionTestMode::And),
-            1 => Some(InteractionTestMode::Or),
-            _ => None,
+            0 => Ok(InteractionTestMode::And),
+            1 => Ok(InteractionTestMode::Or),
+            _ => Err(UnknownNumber(number)),
         }
     }
 }

@@ -8,6 +8,7 @@ pub mod laws;
 mod pose;
 mod rigid_body_type;
 mod shape_kind;
+mod unknown_number;
 mod vector;
 
 pub use aabb::Aabb;
@@ -16,4 +17,5 @@ pub use interaction_groups::{InteractionGroups, InteractionTestMode};
 pub use pose::{Pose, Rotation};
 pub use rigid_body_type::RigidBodyType;
 pub use shape_kind::ShapeKind;
+pub use unknown_number::UnknownNumber;
 pub use vector::Vector;

@@ -6,7 +6,7 @@ use crate::vector::Vector;
 use numbers::in_range;
 
 /// A turn, as a quaternion.
-#[derive(Clone, Copy)]
+#[derive(Clone, Copy, PartialEq, Debug)]
 pub struct Rotation {
     pub i: f32,
     pub j: f32,
@@ -15,10 +15,19 @@ pub struct Rotation {
 }
 
 /// A place and a turn.
-#[derive(Clone, Copy)]
+#[derive(Clone, Copy, PartialEq, Default, Debug)]
 pub struct Pose {
     pub translation: Vector,
     pub rotation: Rotation,
+}
+
+/// No turn.
+impl Default for Rotation {
+    ghost is_default = { λ turn. turn ≡ identity };
+
+    fn default() -> Rotation {
+        Rotation::identity()
+    }
 }
 
 impl Rotation {
@@ -38,7 +47,7 @@ impl Rotation {
     pub fn is_identity(self) -> bool
         ensures { result ≡ is_identity self }
     {
-        self.i == 0.0 && self.j == 0.0 && self.k == 0.0 && self.w == 1.0
+        self == Rotation::identity()
     }
 
     /// Whether each number is at most `limit` in size.

@@ -5,7 +5,7 @@ ghost use Rattle.geometry.specs.Vectors.{origin, uniform, sum_of, difference_of,
 use numbers::{in_range, lerp};
 
 /// Three numbers: a place, a stroke from one place to another, or a velocity.
-#[derive(Clone, Copy)]
+#[derive(Clone, Copy, PartialEq, Default, Debug)]
 pub struct Vector {
     pub x: f32,
     pub y: f32,

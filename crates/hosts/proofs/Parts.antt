@@ -1,11 +1,11 @@
 -- A part of a list of children has at most 16, and what a test lets pass holds of each of them. Assumes nothing.
 use Rattle.std.proofs.Common.{◌≡◌, ℕ, ◌-◌, ◌≤◌, Bool, true, false, cond, ◌&&◌, T, leb, List, [], ◌∷◌, length, take, drop, refl, arith, length-take, leb-true}
-use Rattle.std.specs.List.{AllByRecursion}
+use Rattle.std.specs.List.{AllByRecursion, list_all}
 use Rattle.std.specs.Bool.{passes}
 use Rattle.numbers.proofs.Ranges.{first_of, second_of}
 use Rattle.outcomes.proofs.Caps.{on}
 use Rattle.hosts.specs.declared.questions.Child.{Child}
-use Rattle.hosts.specs.Children.{listed, part_of, all_pass, passing}
+use Rattle.hosts.specs.Children.{listed, part_of, passing}
 
 in_list : (cs : List Child) (f n : ℕ) → T (listed cs f n) → n ≤ 16
 in_list cs f n h =
@@ -26,16 +26,16 @@ short_or_none l true h = h
 short_or_none l false h = omega arith
 
 pub passing_short : (test : Child → Bool) (l : List Child) → length l ≤ 16 → length (passing test l) ≤ 16
-passing_short test l h = short_or_none l (all_pass test l) h
+passing_short test l h = short_or_none l (list_all test l) h
 
-passing_by : (test : Child → Bool) (l : List Child) (b : Bool) → all_pass test l ≡ b → T (all_pass test (cond b l []))
-passing_by test l true e = passes (all_pass test l) e
+passing_by : (test : Child → Bool) (l : List Child) (b : Bool) → list_all test l ≡ b → T (list_all test (cond b l []))
+passing_by test l true e = passes (list_all test l) e
 passing_by test l false e = tt
 
-pub passing_pass : (test : Child → Bool) (l : List Child) → T (all_pass test (passing test l))
-passing_pass test l = passing_by test l (all_pass test l) refl
+pub passing_pass : (test : Child → Bool) (l : List Child) → T (list_all test (passing test l))
+passing_pass test l = passing_by test l (list_all test l) refl
 
 -- what holds of each child that passes holds of all children
-pub each_passes : (test : Child → Bool) (P : Child → Type 0) → ((c : Child) → T (test c) → P c) → (l : List Child) → T (all_pass test l) → AllByRecursion P l
+pub each_passes : (test : Child → Bool) (P : Child → Type 0) → ((c : Child) → T (test c) → P c) → (l : List Child) → T (list_all test l) → AllByRecursion P l
 each_passes test P k [] h = tt
-each_passes test P k (c ∷ l) h = (k c (first_of (test c) (all_pass test l) h), each_passes test P k l (second_of (test c) (all_pass test l) h))
+each_passes test P k (c ∷ l) h = (k c (first_of (test c) (list_all test l) h), each_passes test P k l (second_of (test c) (list_all test l) h))

@@ -1,5 +1,5 @@
 -- The laws of a host. Assumes nothing.
-use Rattle.std.specs.Prelude.{◌≡◌, ℕ, ◌≤◌, T, length, Some, Float}
+use Rattle.std.specs.Prelude.{◌≡◌, ℕ, ◌≤◌, T, length, Some, Ok, Float}
 use Rattle.std.specs.Float.{binary32}
 use Rattle.std.specs.Float.Ieee.{fits, lt}
 use Rattle.std.specs.List.{AllByRecursion}
@@ -12,7 +12,6 @@ use Rattle.geometry.specs.Boxes.{FiniteBox}
 use Rattle.outcomes.specs.declared.pair_kind.PairKind.{PairKind}
 use Rattle.outcomes.specs.declared.pair_kind.PairKind.TheVariants.{Solid, Pseudo}
 use Rattle.outcomes.specs.Impacts.{SolidLaw, PseudoLaw, CleanLaw, TurningLaw, Timed}
-use Rattle.outcomes.specs.declared.turning_outcome.TurningOutcome.TheVariants.{Time}
 use Rattle.hosts.specs.declared.questions.Child.{Child}
 use Rattle.hosts.specs.declared.questions.Sweep.{Sweep}
 use Rattle.hosts.specs.declared.questions.CastQuery.{CastQuery}
@@ -46,7 +45,7 @@ pub record Lawful (h : Answers) : Type 0 where
   pub composite_pseudo : (q : CastQuery) → PseudoLaw (λ c. h.composite_cast q Pseudo c)
   pub composite_clean : (q : CastQuery) (p : PairKind) → CleanLaw (λ c. h.composite_cast q p c)
   -- a turning cast's time is finite, and plain 0 or above; the cap law follows
-  pub times : (q : TurningQuery) (p : PairKind) (t : Float) → h.turning_cast q p ≡ Time t → Timed t
+  pub times : (q : TurningQuery) (p : PairKind) (t : Float) → h.turning_cast q p ≡ Ok (Some t) → Timed t
   pub turning : (q : TurningQuery) (p : PairKind) → TurningLaw (h.turning_cast q p) q.dt
   -- a Compound has 1 to 16 children, each of them sound, and what has children is a Compound
   pub few : (s : ℕ) → h.kind s ≡ Some Compound → (1 ≤ length (h.children s)) × (length (h.children s) ≤ 16)

@@ -6,8 +6,7 @@ use Rattle.geometry.specs.declared.aabb.Aabb.{Aabb}
 use Rattle.geometry.specs.declared.shape_kind.ShapeKind.{ShapeKind}
 use Rattle.outcomes.specs.declared.pair_kind.PairKind.{PairKind}
 use Rattle.outcomes.specs.declared.cast_outcome.CastOutcome.{CastOutcome}
-use Rattle.outcomes.specs.declared.turning_outcome.TurningOutcome.{TurningOutcome}
-use Rattle.outcomes.specs.declared.overlap.Overlap.{Overlap}
+use Rattle.outcomes.specs.Outcomes.{Overlap, TurningOutcome}
 use Rattle.hosts.specs.declared.questions.Child.{Child}
 use Rattle.hosts.specs.declared.questions.Sweep.{Sweep}
 use Rattle.hosts.specs.declared.questions.CastQuery.{CastQuery}

@@ -5,7 +5,7 @@ ghost use Rattle.hosts.specs.Children.{part_of};
 use crate::questions::Child;
 
 /// How many children a Compound may have.
-const MOST_CHILDREN: usize = 16;
+pub const MOST_CHILDREN: usize = 16;
 
 /// The `count` children from `first` on, where there are 1 to 16 of them and they are all listed; else none.
 pub fn part(children: &[Child], first: u32, count: u32) -> &[Child]
@@ -13,10 +13,8 @@ pub fn part(children: &[Child], first: u32, count: u32) -> &[Child]
 {
     let first = first as usize;
     let count = count as usize;
-    let len = children.len();
-    if 1 <= count && count <= MOST_CHILDREN && first <= len && count <= len - first {
-        &children[first..first + count]
-    } else {
-        &children[0..0]
+    if !(1..=MOST_CHILDREN).contains(&count) {
+        return &[];
     }
+    children.get(first..first + count).unwrap_or(&[])
 }

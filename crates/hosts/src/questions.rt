@@ -2,14 +2,14 @@
 use geometry::{Pose, Vector};
 
 /// A part of a Compound: a shape, and where it stands in it.
-#[derive(Clone, Copy)]
+#[derive(Clone, Copy, Default)]
 pub struct Child {
     pub pose: Pose,
     pub shape: u32,
 }
 
 /// A motion from one pose to another, about a local centre.
-#[derive(Clone, Copy)]
+#[derive(Clone, Copy, Default)]
 pub struct Sweep {
     pub start: Pose,
     pub end: Pose,
@@ -17,7 +17,7 @@ pub struct Sweep {
 }
 
 /// A motion by velocities, about a local centre.
-#[derive(Clone, Copy)]
+#[derive(Clone, Copy, Default)]
 pub struct Motion {
     pub start: Pose,
     pub centre: Vector,

@@ -1,6 +1,7 @@
 -- The measured halls: what the end of a step makes of each, and three first impacts. Every half side is 0.5. A marked carton goes from
 -- 0 to 8 on the first axis; dt is 1, and the slop and the prediction distance are 0, unless said otherwise. Assumes nothing.
-use Rattle.std.specs.Prelude.{◌≡◌, ℕ, ◌*◌, Bool, true, false, cond, List, [], ◌∷◌, length, take, replicate, Some, None, Option, Float}
+use Rattle.std.specs.Prelude.{◌≡◌, ℕ, ◌*◌, Bool, true, false, cond, List, [], ◌∷◌, length, take, replicate, map, filter_map, Some, None, Ok, Option, Float}
+use Rattle.std.specs.List.{AllByRecursion}
 use Rattle.numbers.specs.Constants.{zero_f}
 use Rattle.geometry.specs.declared.handle.RigidBodyHandle.{RigidBodyHandle}
 use Rattle.geometry.specs.declared.pose.Pose.{Pose}
@@ -20,7 +21,7 @@ use Rattle.records.specs.declared.collider.Collider.{Collider}
 use Rattle.records.specs.declared.collider.ColliderParent.{ColliderParent}
 use Rattle.records.specs.Lists.{empty_list, attached, blank_handle}
 use Rattle.finders.specs.declared.entry.Entry.{Entry}
-use Rattle.finders.specs.Finders.{Held, Listing, Meaning, empty, collider_of}
+use Rattle.finders.specs.Finders.{Listing, empty, collider_of}
 use Rattle.finders.specs.Tables.{upward}
 use Rattle.pair_casts.specs.declared.target.Step.{Step}
 use Rattle.sweeps.specs.declared.hall.BodyContinuousResult.{BodyContinuousResult}
@@ -29,7 +30,7 @@ use Rattle.crossings.specs.declared.event.CollisionEvent.{CollisionEvent}
 use Rattle.crossings.specs.declared.event.CollisionEvent.TheVariants.{Started, Stopped}
 use Rattle.crossings.specs.Crossings.{no_result}
 use Rattle.ccd_solver.specs.declared.solver.Solved.{Solved}
-use Rattle.ccd_solver.specs.FixedTargets.{collected}
+use Rattle.ccd_solver.specs.FixedTargets.{Entering, collected}
 use Rattle.ccd_solver.specs.Stages.{Setting, setting, env, result}
 use Rattle.ccd_solver.specs.Solver.{Outcome, solution, solved}
 use Rattle.ccd_solver.specs.FirstImpact.{first_impact}
@@ -64,15 +65,11 @@ boxed h (Free g n) = None
 boxed h Retired = None
 boxed h (Live g c) = cond c.enabled (Some (record { generation = g; aabb = h.aabb c.shape c.position })) None
 
-abbrev all_boxed : Answers → List (Slot Collider) → Held
-all_boxed h [] = []
-all_boxed h (s ∷ ss) = boxed h s ∷ all_boxed h ss
-
 abbrev pub full : Answers → List (Slot Collider) → Listing
-full h cs = upward 0 (all_boxed h cs)
+full h cs = upward 0 (map (boxed h) cs)
 
 -- the list of the colliders at rest, made anew from a new one, and whether it is whole
-abbrev pub fixed : Hall → Meaning × Bool
+abbrev pub fixed : Hall → Entering
 fixed h = collected h.host h.bodies h.colliders (empty 1024 512)
 
 abbrev step : Float → Float → Step
@@ -99,25 +96,20 @@ solved_over near h =
     (replicate (length h.colliders) blank_hit)
     (replicate (2 * length h.colliders) blank_event)
 
-abbrev nexts_of : List (Slot RigidBody) → List Pose
-nexts_of [] = []
-nexts_of (Unused ∷ ss) = nexts_of ss
-nexts_of (Free g n ∷ ss) = nexts_of ss
-nexts_of (Retired ∷ ss) = nexts_of ss
-nexts_of (Live g b ∷ ss) = b.next ∷ nexts_of ss
+abbrev next_of : Slot RigidBody → Option Pose
+next_of Unused = None
+next_of (Free g n) = None
+next_of Retired = None
+next_of (Live g b) = Some b.next
 
 abbrev pub answer_of : Outcome → Answer
-answer_of o = answer o.4 (take o.4.results o.1) (take o.4.events o.3) (nexts_of o.0)
+answer_of o = answer o.4 (take o.4.results o.1) (take o.4.events o.3) (filter_map next_of o.0)
 
 -- the list is whole, and with it, as with the full finder in its place, the answer is what was measured
 pub record Holds (h : Hall) : Type 0 where
-  pub whole : (fixed h).1 ≡ true
+  pub whole : (fixed h).1 ≡ Ok tt
   pub over_list : answer_of (solved_over (upward 0 (fixed h).0.held) h) ≡ h.expected
   pub over_finder : answer_of (solved_over (full h.host h.colliders) h) ≡ h.expected
-
-abbrev pub AllHold : List Hall → Type 0
-AllHold [] = Unit {0}
-AllHold (h ∷ hs) = Holds h × AllHold hs
 
 -- ---- bodies and colliders
 
@@ -258,7 +250,7 @@ abbrev pub impact : Float → Float → Option Float
 impact at dt = impact_in (carton_part all_groups ∷ wall at ∷ []) dt
 
 pub record Measured : Type 0 where
-  pub all_halls : AllHold halls
+  pub all_halls : AllByRecursion Holds halls
   pub at_one : impact x4·5 x1 ≡ Some x0·4375
   -- where no time passes, there is none
   pub at_zero : impact x4·5 zero_f ≡ None

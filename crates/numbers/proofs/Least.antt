@@ -1,5 +1,5 @@
 -- The least of a list of floats is in the list and below all of it, and it turns on the list's elements alone. Assumes nothing.
-use Rattle.std.proofs.Common.{◌≡◌, ℕ, zero, suc, Bool, true, false, cond, not, T, ◌⊎◌, List, [], ◌∷◌, Some, sym, refl, ap, ◌∙◌, subst, inl, inr, zero-lt-suc, arith, ltb→lt}
+use Rattle.std.proofs.Common.{◌≡◌, ℕ, zero, suc, Bool, true, false, cond, not, T, ◌⊎◌, List, [], ◌∷◌, Option, Some, MatchOption, sym, refl, ap, ◌∙◌, subst, inl, inr, zero-lt-suc, arith, ltb→lt}
 use lib.Ieee.{Float, nan, inf, fin, Format, lt, le}
 use Rattle.std.specs.Float as Floats
 use Rattle.std.specs.Float.{is_sign_negative}
@@ -68,6 +68,14 @@ least_is (x ∷ xs) m p e =
     let w : best_of lt x xs ≡ m = cc in
     let r = from_below x xs p.0 p.1 in
     subst (Least (x ∷ xs)) w (from_has x xs, (r.0, r.1))
+
+-- what `least` answers of a list of numbers
+answer_of : (xs : List Float) → AllByRecursion Number xs → MatchOption (least xs) (xs ≡ []) (Least xs)
+answer_of [] p = refl
+answer_of (x ∷ xs) p = least_is (x ∷ xs) (best_of lt x xs) p refl
+
+pub least_answers : (xs : List Float) (r : Option Float) → r ≡ least xs → AllByRecursion Number xs → MatchOption r (xs ≡ []) (Least xs)
+least_answers xs r e p = subst (λ (o : Option Float). MatchOption o (xs ≡ []) (Least xs)) (sym e) (answer_of xs p)
 
 -- a list of which each element stands in the other has a least value that is no smaller
 pub least_falls : (xs ys : List Float) (m n : Float) → AllByRecursion Number xs → AllByRecursion Number ys → least xs ≡ Some m → least ys ≡ Some n → AllByRecursion (Has ys) xs → T (le n m)

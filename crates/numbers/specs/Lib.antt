@@ -1,5 +1,6 @@
 pub mod Constants
 pub mod Reals
+pub mod Picks
 pub mod Least
 pub mod Along
 pub mod Laws

@@ -1,5 +1,5 @@
 -- The cap law of turning casts. Assumes nothing.
-use Rattle.std.proofs.Common.{◌≡◌, ℕ, Bool, true, false, cond, not, ◌&&◌, T, Some, None, Option, sym, refl, ap, ◌∙◌, subst, arith}
+use Rattle.std.proofs.Common.{◌≡◌, ℕ, Bool, true, false, cond, not, ◌&&◌, T, Some, None, Option, Ok, Err, sym, refl, ap, ◌∙◌, subst, arith}
 use lib.Ieee.{Float, binary32, div, eq, fits, is_nan, lt, le, unlike}
 use lib.Ieee.Fits.{div-fits}
 use lib.Ieee.Scale.{finite}
@@ -16,7 +16,6 @@ use Rattle.numbers.proofs.Ranges.{both}
 use Rattle.numbers.proofs.Units.{not_same}
 use Rattle.outcomes.specs.declared.pair_kind.PairKind.{PairKind}
 use Rattle.outcomes.specs.declared.pair_kind.PairKind.TheVariants.{Solid, Pseudo}
-use Rattle.outcomes.specs.declared.turning_outcome.TurningOutcome.TheVariants.{Time, Nothing, Unsupported}
 use Rattle.outcomes.specs.Impacts.{clean, Timed, quotient, taken_at, taken_if, under, TurnsUnderCaps}
 use Rattle.outcomes.proofs.Caps.{strictly_under, upto_under, strictly_is, upto_is, not_left, clean_plain}
 
@@ -75,10 +74,10 @@ nothing_taken : (i : Float) → ◌≡◌ {A = Option Float} None (Some i) → �
 nothing_taken i e = let z : ◌≡◌ {A = ℕ} 0 1 = cc in omega arith
 
 pub turns_under_caps : TurnsUnderCaps
-turns_under_caps (Time t) dt h = record {
-  capped = λ p c C. if_under p (quotient (Time t) dt) c C.1;
+turns_under_caps (Ok (Some t)) dt h = record {
+  capped = λ p c C. if_under p (quotient (Ok (Some t)) dt) c C.1;
   impact = λ p i d l e. time_impact t dt (h t refl) p i d l (eq dt zero_f) refl e;
   still = time_still t dt (h t refl);
 }
-turns_under_caps Nothing dt h = record { capped = λ p c C. under_none p c; impact = λ p i d l e. absurd (nothing_taken i e); still = λ p c e. refl }
-turns_under_caps Unsupported dt h = record { capped = λ p c C. under_none p c; impact = λ p i d l e. absurd (nothing_taken i e); still = λ p c e. refl }
+turns_under_caps (Ok None) dt h = record { capped = λ p c C. under_none p c; impact = λ p i d l e. absurd (nothing_taken i e); still = λ p c e. refl }
+turns_under_caps (Err u) dt h = record { capped = λ p c C. under_none p c; impact = λ p i d l e. absurd (nothing_taken i e); still = λ p c e. refl }

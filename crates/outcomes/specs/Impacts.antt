@@ -1,5 +1,5 @@
 -- What a pair takes of a cast at a cap, and the cap law. Assumes nothing.
-use Rattle.std.specs.Prelude.{◌≡◌, Bool, true, cond, not, ◌&&◌, T, Some, None, Option, ◌==◌, is_nan, Float}
+use Rattle.std.specs.Prelude.{◌≡◌, Bool, true, cond, not, ◌&&◌, T, Some, None, Option, Ok, Err, ◌==◌, is_nan, Float}
 use Rattle.std.specs.Float.Ieee.{div, eq, lt, le, fits}
 use Rattle.std.specs.Float.Ieee.Scale.{finite}
 use Rattle.std.specs.Float.{is_sign_negative, binary32}
@@ -8,9 +8,7 @@ use Rattle.numbers.specs.Reals.{is_zero}
 use Rattle.outcomes.specs.declared.pair_kind.PairKind.{PairKind}
 use Rattle.outcomes.specs.declared.pair_kind.PairKind.TheVariants.{Solid, Pseudo}
 use Rattle.outcomes.specs.declared.cast_outcome.CastOutcome.{CastOutcome}
-use Rattle.outcomes.specs.declared.turning_outcome.TurningOutcome.{TurningOutcome}
-use Rattle.outcomes.specs.declared.turning_outcome.TurningOutcome.TheVariants.{Time, Nothing, Unsupported}
-use Rattle.outcomes.specs.Outcomes.{status_number, fraction_of}
+use Rattle.outcomes.specs.Outcomes.{TurningOutcome, status_number, fraction_of}
 
 -- a value of single precision that is neither NaN nor minus zero
 abbrev pub clean : Float → Bool
@@ -62,9 +60,9 @@ pseudo_impact cast = pseudo_at (cast one_f) one_f
 
 -- the time as a fraction of dt; none where dt is 0, of either sign
 abbrev pub quotient : TurningOutcome → Float → Option Float
-quotient (Time t) dt = cond (eq dt zero_f) None (Some (div binary32 t dt))
-quotient Nothing dt = None
-quotient Unsupported dt = None
+quotient (Ok (Some t)) dt = cond (eq dt zero_f) None (Some (div binary32 t dt))
+quotient (Ok None) dt = None
+quotient (Err u) dt = None
 
 abbrev pub taken_at : PairKind → Float → Float → Option Float
 taken_at Solid f c = strictly f c
@@ -119,4 +117,4 @@ pub record TurningLaw (o : TurningOutcome) (dt : Float) : Type 0 where
 
 -- every answer whose time, if it has one, is finite and plain 0 or above keeps it
 abbrev pub TurnsUnderCaps : Type 0
-TurnsUnderCaps = (o : TurningOutcome) (dt : Float) → ((t : Float) → o ≡ Time t → Timed t) → TurningLaw o dt
+TurnsUnderCaps = (o : TurningOutcome) (dt : Float) → ((t : Float) → o ≡ Ok (Some t) → Timed t) → TurningLaw o dt

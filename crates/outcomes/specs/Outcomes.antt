@@ -1,11 +1,18 @@
 -- What casts and overlap tests answer: the number of each case, and the value that it carries. Assumes nothing.
-use Rattle.std.specs.Prelude.{ℕ, Bool, true, false, cond, Float}
+use Rattle.std.specs.Prelude.{ℕ, Bool, true, false, List, Some, None, Option, Ok, Err, Result, codes, Float}
 use Rattle.outcomes.specs.declared.cast_outcome.CastOutcome.{CastOutcome}
 use Rattle.outcomes.specs.declared.cast_outcome.CastOutcome.TheVariants.{Hit, Failed, Overlapped, Separated}
-use Rattle.outcomes.specs.declared.turning_outcome.TurningOutcome.{TurningOutcome}
-use Rattle.outcomes.specs.declared.turning_outcome.TurningOutcome.TheVariants.{Time, Nothing, Unsupported}
-use Rattle.outcomes.specs.declared.overlap.Overlap as Overlaps
-use Rattle.outcomes.specs.declared.overlap.Overlap.{Overlap}
+use Rattle.outcomes.specs.declared.unsupported.Unsupported.{Unsupported}
+use Rattle.outcomes.specs.declared.pair_kind.PairKind.{PairKind}
+use Rattle.outcomes.specs.declared.pair_kind.PairKind.TheVariants.{Solid, Pseudo}
+
+-- what an overlap test answers: yes or no, or that the host cannot tell
+abbrev pub Overlap : Type 0
+Overlap = Result Bool Unsupported
+
+-- what a turning cast answers: a time, or nothing, or that the host cannot tell
+abbrev pub TurningOutcome : Type 0
+TurningOutcome = Result (Option Float) Unsupported
 
 abbrev pub status_number : CastOutcome → ℕ
 status_number (Hit f) = 0
@@ -20,20 +27,21 @@ fraction_of (Overlapped f) = f
 fraction_of (Separated f) = f
 
 abbrev pub turning_number : TurningOutcome → ℕ
-turning_number (Time t) = 0
-turning_number Nothing = 1
-turning_number Unsupported = 2
+turning_number (Ok (Some t)) = 0
+turning_number (Ok None) = 1
+turning_number (Err u) = 2
 
 abbrev pub overlap_number : Overlap → ℕ
-overlap_number Overlaps.TheVariants.No = 0
-overlap_number Overlaps.TheVariants.Yes = 1
-overlap_number Overlaps.TheVariants.Unsupported = 2
+overlap_number (Ok false) = 0
+overlap_number (Ok true) = 1
+overlap_number (Err u) = 2
 
 -- what the host cannot tell is not yes
 abbrev pub is_yes : Overlap → Bool
-is_yes Overlaps.TheVariants.No = false
-is_yes Overlaps.TheVariants.Yes = true
-is_yes Overlaps.TheVariants.Unsupported = false
+is_yes (Ok b) = b
+is_yes (Err u) = false
 
-abbrev pub yes_or_no : Bool → Overlap
-yes_or_no b = cond b Overlaps.TheVariants.Yes Overlaps.TheVariants.No
+-- the word for a kind of pair
+abbrev pub pair_name : PairKind → List ℕ
+pair_name Solid = codes "solid"
+pair_name Pseudo = codes "pseudo"

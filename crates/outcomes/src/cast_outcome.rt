@@ -1,12 +1,12 @@
 //! What a proxy or composite cast answers.
 ghost use Rattle.std.specs.Prelude.{◌≡◌};
 ghost use Rattle.outcomes.specs.Outcomes.{status_number, fraction_of};
-ghost use Rattle.outcomes.specs.Impacts.{strictly, upto, solid_of, pseudo_of, taken_of};
+ghost use Rattle.outcomes.specs.Impacts.{solid_of, pseudo_of, taken_of};
 
-use crate::pair_kind::PairKind;
+use crate::pair_kind::{PairKind, between, within};
 
 /// How a cast ended, with the fraction of the sweep at which it did.
-#[derive(Clone, Copy)]
+#[derive(Clone, Copy, PartialEq, Debug)]
 pub enum CastOutcome {
     /// The shapes meet there.
     Hit(f32),
@@ -18,30 +18,9 @@ pub enum CastOutcome {
     Separated(f32),
 }
 
-/// The fraction, where it lies strictly between 0 and the cap.
-pub fn between(fraction: f32, cap: f32) -> Option<f32>
-    ensures { result ≡ strictly fraction cap }
-{
-    if 0.0 < fraction && fraction < cap {
-        Some(fraction)
-    } else {
-        None
-    }
-}
-
-/// The fraction, where it is at most the cap.
-pub fn within(fraction: f32, cap: f32) -> Option<f32>
-    ensures { result ≡ upto fraction cap }
-{
-    if fraction <= cap {
-        Some(fraction)
-    } else {
-        None
-    }
-}
-
 impl CastOutcome {
     /// The number that stands for the status outside: 0 to 3.
+    // no `From`: the number says nothing of the fraction
     pub fn number(self) -> u8
         ensures { result ≡ status_number self }
     {

@@ -1,58 +1,43 @@
 //! What a turning cast answers.
 ghost use Rattle.std.specs.Prelude.{◌≡◌};
 ghost use Rattle.outcomes.specs.Outcomes.{turning_number};
-ghost use Rattle.outcomes.specs.Impacts.{quotient, turned_of, taken_at, TurnsUnderCaps};
+ghost use Rattle.outcomes.specs.Impacts.{quotient, turned_of, TurnsUnderCaps};
 
-use crate::cast_outcome::{between, within};
 use crate::pair_kind::PairKind;
+use crate::unsupported::Unsupported;
 
 /// When a turning shape meets a target: at a time, never, or the host cannot tell.
-#[derive(Clone, Copy)]
-pub enum TurningOutcome {
-    Time(f32),
-    Nothing,
-    Unsupported,
-}
+pub type TurningOutcome = Result<Option<f32>, Unsupported>;
 
-/// What a pair of the given kind takes of a fraction.
-fn judged(fraction: f32, pair: PairKind, cap: f32) -> Option<f32>
-    ensures { result ≡ taken_at pair fraction cap }
+/// The number that stands for it outside: 0 to 2.
+// functions, since neither `Result` nor `u8` is of this crate
+pub fn turning_number(outcome: TurningOutcome) -> u8
+    ensures { result ≡ turning_number outcome }
 {
-    match pair {
-        PairKind::Solid => between(fraction, cap),
-        PairKind::Pseudo => within(fraction, cap),
+    match outcome {
+        Ok(Some(_)) => 0,
+        Ok(None) => 1,
+        Err(Unsupported) => 2,
     }
 }
 
-impl TurningOutcome {
-    /// The number that stands for it outside: 0 to 2.
-    pub fn number(self) -> u8
-        ensures { result ≡ turning_number self }
-    {
-        match self {
-            TurningOutcome::Time(_) => 0,
-            TurningOutcome::Nothing => 1,
-            TurningOutcome::Unsupported => 2,
-        }
+/// The time as a fraction of `dt`; none where `dt` is 0.
+pub fn turning_fraction(outcome: TurningOutcome, dt: f32) -> Option<f32>
+    ensures { result ≡ quotient outcome dt }
+{
+    match outcome {
+        // no guard: of a negated test of floats the proof did not close
+        Ok(Some(time)) => { if dt == 0.0 { None } else { Some(time / dt) } }
+        Ok(None) | Err(Unsupported) => None,
     }
+}
 
-    /// The time as a fraction of `dt`; none where `dt` is 0.
-    pub fn fraction(self, dt: f32) -> Option<f32>
-        ensures { result ≡ quotient self dt }
-    {
-        match self {
-            TurningOutcome::Time(time) => { if dt == 0.0 { None } else { Some(time / dt) } }
-            TurningOutcome::Nothing | TurningOutcome::Unsupported => None,
-        }
-    }
-
-    /// What a pair of the given kind takes of it.
-    pub fn impact(self, dt: f32, pair: PairKind, cap: f32) -> Option<f32>
-        ensures { result ≡ turned_of pair self dt cap }
-    {
-        let fraction = self.fraction(dt)?;
-        judged(fraction, pair, cap)
-    }
+/// What a pair of the given kind takes of it.
+pub fn turning_impact(outcome: TurningOutcome, dt: f32, pair: PairKind, cap: f32) -> Option<f32>
+    ensures { result ≡ turned_of pair outcome dt cap }
+{
+    let fraction = turning_fraction(outcome, dt)?;
+    pair.taken(fraction, cap)
 }
 
 /// The cap law of turning casts: whatever a host answers, what is taken at a cap is what is taken at the cap 1, where that

@@ -19,7 +19,6 @@ use Rattle.pair_casts.specs.declared.fast_shape.FastShapeKind.TheVariants.{Conve
 use Rattle.pair_casts.specs.declared.fast_shape.FastShape.{FastShape}
 use Rattle.pair_casts.specs.declared.target.Step.{Step}
 use Rattle.pair_casts.specs.declared.target.Target.{Target}
-use Rattle.pair_casts.specs.FastShapes.{listed_in}
 
 abbrev pub query_of : Target → Float → FastSubShape → CastQuery
 query_of t slop q = record { fast = q.shape; sweep = q.sweep; target = t.shape; pose = t.pose; slop = slop }
@@ -42,7 +41,7 @@ turning_taken h s t fast m c = cond (eq s.dt zero_f) None (turned_of t.pair (h.t
 -- by pieces, with a cap that each accepted fraction tightens, or by one turning cast
 abbrev pub taken_by : Answers → Step → Target → FastShape → TargetKind → FastShapeKind → Float → Option Float
 taken_by h s t f k (Convex q) c = cond (is_turning k) (turning_taken h s t f.shape f.motion c) (sub_shape_taken h s t k q c)
-taken_by h s t f k (Compound qs) c = cond (is_turning k) (turning_taken h s t f.shape f.motion c) (sought (sub_shape_taken h s t k) c None (listed_in qs))
+taken_by h s t f k (Compound qs) c = cond (is_turning k) (turning_taken h s t f.shape f.motion c) (sought (sub_shape_taken h s t k) c None qs.items)
 taken_by h s t f k Nonlinear c = turning_taken h s t f.shape f.motion c
 
 -- a target that the host does not know is not cast at

@@ -6,6 +6,6 @@ mod cast;
 mod fast_shape;
 mod target;
 
-pub use cast::{cast_collider_pair, cast_sub_shape, fallback_nonlinear_fraction};
-pub use fast_shape::{FastShape, FastShapeKind, FastSubShape, SubShapes};
+pub use cast::{PairCast, cast_collider_pair};
+pub use fast_shape::{FastShape, FastShapeKind, FastSubShape};
 pub use target::{Step, Target};

@@ -1,28 +1,24 @@
 //! Which pairs are cast, and as what.
-ghost use Rattle.std.specs.Prelude.{◌≡◌};
-ghost use Rattle.std.specs.Option.{option_map};
+ghost use Rattle.std.specs.Prelude.{◌≡◌, option_copied};
 ghost use Rattle.pairs.specs.Pairs.{fast_of, no_bullet, tier_allows, of_body, filtered_out, admits, pair_kind};
 
-use crate::fast_collider::FastCollider;
+use crate::fast_collider::{Candidate, FastCollider};
 use finders::Filter;
-use geometry::{ColliderHandle, RigidBodyHandle};
+use geometry::RigidBodyHandle;
 use outcomes::PairKind;
 use records::{Collider, RigidBody, at_rest};
 
 /// Whether a body, if there is one, is no bullet.
 fn is_no_bullet(body: Option<&RigidBody>) -> bool
-    ensures { result ≡ no_bullet (option_map (λ x. x.now) body.entry) }
+    ensures { result ≡ no_bullet (option_copied body.entry) }
 {
-    match body {
-        Some(body) => !body.is_bullet(),
-        None => true,
-    }
+    body.is_none_or(|body| !body.is_bullet())
 }
 
 /// Whether the tier of a swept body lets it meet what belongs to another: a bullet meets everything but bullets, any other body
 /// only what is at rest.
 pub fn tier_allows(body: &RigidBody, other: Option<&RigidBody>) -> bool
-    ensures { result ≡ tier_allows body.now (option_map (λ x. x.now) other.entry) }
+    ensures { result ≡ tier_allows body.now (option_copied other.entry) }
 {
     if body.is_bullet() {
         is_no_bullet(other)
@@ -35,38 +31,27 @@ pub fn tier_allows(body: &RigidBody, other: Option<&RigidBody>) -> bool
 fn is_of_body(collider: &Collider, body: RigidBodyHandle) -> bool
     ensures { result ≡ of_body collider.now.parent body }
 {
-    match collider.parent {
-        Some(parent) => parent.body.0.is(body.0),
-        None => false,
+    collider.parent.is_some_and(|parent| parent.body == body)
+}
+
+impl<'a> FastCollider<'a> {
+    /// Whether the filter drops the pair. It is asked only where the hook bit is on in either, and for sensors too.
+    pub fn pair_filtered_out_by_hooks<F: Filter>(&self, filter: &F, other: &Candidate) -> bool
+        ensures { result ≡ filtered_out (F.keeps filter.now) (fast_of self.now) other.now.handle other.now.collider.now }
+    {
+        (self.collider.has_hook() || other.collider.has_hook())
+            && !filter.keep(self.handle, other.handle)
     }
-}
 
-/// Whether the filter drops the pair. It is asked only where the hook bit is on in either, and for sensors too.
-pub fn pair_filtered_out_by_hooks<F: Filter>(
-    filter: &F,
-    fast: &FastCollider,
-    handle: ColliderHandle,
-    collider: &Collider,
-) -> bool
-    ensures { result ≡ filtered_out (F.keeps filter.now) (fast_of fast.now) handle collider.now }
-{
-    (fast.collider.has_hook() || collider.has_hook()) && !filter.keep(fast.handle, handle)
-}
-
-/// Whether a collider, whose body is the other one, may be met by a swept one.
-pub fn is_admitted<F: Filter>(
-    filter: &F,
-    fast: &FastCollider,
-    handle: ColliderHandle,
-    collider: &Collider,
-    other: Option<&RigidBody>,
-) -> bool
-    ensures { result ≡ admits (F.keeps filter.now) (fast_of fast.now) handle collider.now (option_map (λ x. x.now) other.entry) }
-{
-    !is_of_body(collider, fast.owner)
-        && tier_allows(fast.body, other)
-        && fast.collider.collision.test(collider.collision)
-        && !pair_filtered_out_by_hooks(filter, fast, handle, collider)
+    /// Whether it may meet another collider.
+    pub fn admits<F: Filter>(&self, filter: &F, other: &Candidate) -> bool
+        ensures { result ≡ admits (F.keeps filter.now) (fast_of self.now) other.now.handle other.now.collider.now (option_copied other.now.body) }
+    {
+        !is_of_body(other.collider, self.owner)
+            && tier_allows(self.body, other.body)
+            && self.collider.collision.test(other.collider.collision)
+            && !self.pair_filtered_out_by_hooks(filter, other)
+    }
 }
 
 /// Whether a pair stops the swept body or is only noted: a sensor on either side, or solver groups that disagree, make it pseudo.

@@ -6,6 +6,6 @@ mod admission;
 mod fast_collider;
 mod target;
 
-pub use admission::{is_admitted, pair_filtered_out_by_hooks, pair_kind, tier_allows};
-pub use fast_collider::FastCollider;
+pub use admission::{pair_kind, tier_allows};
+pub use fast_collider::{Candidate, FastCollider};
 pub use target::{parent_body, target_collider_pose};

@@ -1,6 +1,5 @@
 //! The collider that is cast at.
-ghost use Rattle.std.specs.Prelude.{◌≡◌};
-ghost use Rattle.std.specs.Option.{option_map};
+ghost use Rattle.std.specs.Prelude.{◌≡◌, option_copied};
 ghost use Rattle.pairs.specs.Pairs.{parent_body, stands_at};
 
 use geometry::Pose;
@@ -10,12 +9,9 @@ use slots::{Slot, get};
 
 /// The live body of a collider.
 pub fn parent_body<'a>(bodies: &'a [Slot<RigidBody>], collider: &Collider) -> Option<&'a RigidBody>
-    ensures { option_map (λ x. x.now) result ≡ parent_body bodies.now collider.now.parent }
+    ensures { option_copied result ≡ parent_body bodies.now collider.now.parent }
 {
-    match collider.parent {
-        Some(parent) => get(bodies, parent.body.0),
-        None => None,
-    }
+    get(bodies, collider.parent?.body.0)
 }
 
 /// Where a target stands through the sweep: with its body at the end of the step, which for a clamped body is where it was
@@ -25,7 +21,7 @@ pub fn target_collider_pose<H: Host>(
     collider: &Collider,
     body: Option<&RigidBody>,
 ) -> Pose
-    ensures { result ≡ stands_at (H.answers host.now) collider.now (option_map (λ x. x.now) body.entry) }
+    ensures { result ≡ stands_at (H.answers host.now) collider.now (option_copied body.entry) }
 {
     match (collider.parent, body) {
         (Some(parent), Some(body)) => host.product(body.next, parent.relative),

@@ -1,11 +1,11 @@
 -- Proofs: the recorded host keeps the laws of a host, whatever is listed. A ghost member cites the last of them, so they stand here. Assumes nothing.
-use Rattle.std.specs.Prelude.{◌≡◌, ℕ, ◌≤◌, Bool, true, false, cond, not, ◌&&◌, T, List, [], ◌∷◌, length, Some, None, Option, ◌==◌, ◌≢◌, is_nan, refl, Float}
+use Rattle.std.specs.Prelude.{◌≡◌, ℕ, ◌≤◌, Bool, true, false, cond, not, ◌&&◌, T, List, [], ◌∷◌, length, Some, None, Option, Ok, ◌==◌, ◌≢◌, is_nan, refl, Float}
 use Rattle.std.proofs.Common.{sym, ap, ◌∙◌, subst, arith, T_not, ne_eqb}
 use Rattle.std.specs.Float.Ieee.{of_bits, fits, le, lt}
 use Rattle.std.specs.Float.Ieee.Scale.{finite}
 use Rattle.std.proofs.lemmas.Bool.{eqb-false}
 use Rattle.std.specs.Float.{is_sign_negative, binary32}
-use Rattle.std.specs.List.{slice_get}
+use Rattle.std.specs.List.{slice_get, list_all}
 use Rattle.std.specs.Bool.{passes, fails}
 use Rattle.std.specs.Float.Order.{lt_irrefl, le_of_lt, le_right}
 use Rattle.numbers.specs.Constants.{zero_f, one_f, million}
@@ -20,13 +20,12 @@ use Rattle.geometry.specs.Poses.{is_identity, ranged_pose, InRange}
 use Rattle.geometry.specs.Boxes.{FiniteBox}
 use Rattle.outcomes.specs.declared.cast_outcome.CastOutcome.{CastOutcome}
 use Rattle.outcomes.specs.declared.cast_outcome.CastOutcome.TheVariants.{Hit, Failed, Overlapped, Separated}
-use Rattle.outcomes.specs.declared.turning_outcome.TurningOutcome.TheVariants.{Time}
-use Rattle.outcomes.specs.Outcomes.{fraction_of}
+use Rattle.outcomes.specs.Outcomes.{TurningOutcome, fraction_of}
 use Rattle.outcomes.specs.Impacts.{clean, Cap, strictly, upto, below, at_most, solid_of, pseudo_of, SolidLaw, PseudoLaw, CleanLaw, Timed}
 use Rattle.outcomes.proofs.Caps.{on, off, strictly_none, strictly_under, not_left}
 use Rattle.outcomes.proofs.Turns.{turns_under_caps}
 use Rattle.hosts.specs.declared.questions.Child.{Child}
-use Rattle.hosts.specs.Children.{part_of}
+use Rattle.hosts.specs.Children.{part_of, passing}
 use Rattle.hosts.specs.HostLaws.{Lawful, SoundChild}
 use Rattle.hosts.specs.Turnless.{admitted, product_of}
 use Rattle.hosts.proofs.Parts.{part_short, short_or_none, passing_short, passing_pass, each_passes}
@@ -34,7 +33,7 @@ use Rattle.hosts.proofs.Places.{Bounded, one_m, five_m}
 use Rattle.hosts.proofs.Insides.{Each, in_million_all, in_reach_all, in_five_all, sum_in_five, place_ranged, origin_in, sum_finite, around_finite, inside_a_sweep}
 use Rattle.recorded.specs.declared.rows.Listed.{Listed}
 use Rattle.recorded.specs.declared.rows.Row.{Row}
-use Rattle.recorded.specs.Records.{recorded_answers, ranged_box, only_ranged, entry_of, is_compound, is_piece, child_fits, all_fit, fitting_of, parts_of, children_of, known_of, shape_of, kind_of, box_at, from_zero, time_fits, row_fits, counts, row_of, at_cap, cast_of, time_from, time_of}
+use Rattle.recorded.specs.Records.{recorded_answers, ranged_box, only_ranged, entry_of, is_compound, is_piece, child_fits, listed_of, parts_of, children_of, known_of, shape_of, kind_of, box_at, from_zero, time_fits, row_fits, counts, row_of, at_cap, cast_of, time_of}
 
 -- ---- numbers from 0
 
@@ -168,18 +167,21 @@ million_finite : T (finite million)
 unfolding of_bits
 million_finite = tt
 
-time_from_lem : (u : Option Float) → T (time_fits u) → (t : Float) → time_from u ≡ Time t → Timed t
-time_from_lem None h t e = let z : ◌≡◌ {A = ℕ} 0 1 = cc in absurd (omega arith)
-time_from_lem (Some s) h t e =
+abbrev told : Option Float → TurningOutcome
+told u = Ok u
+
+told_timed : (u : Option Float) → T (time_fits u) → (t : Float) → told u ≡ Ok (Some t) → Timed t
+told_timed None h t e = let z : ◌≡◌ {A = ℕ} 0 1 = cc in absurd (omega arith)
+told_timed (Some s) h t e =
     let same : s ≡ t = cc in
     let k = from_zero_is million s h in
     subst Timed same (finite_between zero_f s million zero_finite million_finite k.1 k.2, k.0, k.1)
 
-time_of_lem : (o : Option Row) → InRow o → (t : Float) → time_of o ≡ Time t → Timed t
+time_of_lem : (o : Option Row) → InRow o → (t : Float) → time_of o ≡ Ok (Some t) → Timed t
 time_of_lem None m t e = let z : ◌≡◌ {A = ℕ} 0 1 = cc in absurd (omega arith)
-time_of_lem (Some r) m t e = time_from_lem r.time (second_of (from_zero one_f (fraction_of r.cast)) (time_fits r.time) m) t e
+time_of_lem (Some r) m t e = told_timed r.time (second_of (from_zero one_f (fraction_of r.cast)) (time_fits r.time) m) t e
 
-time_law : (rs : List Row) (f g : ℕ) (t : Float) → time_of (row_of rs f g) ≡ Time t → Timed t
+time_law : (rs : List Row) (f g : ℕ) (t : Float) → time_of (row_of rs f g) ≡ Ok (Some t) → Timed t
 time_law rs f g = time_of_lem (row_of rs f g) (in_row rs f g)
 
 -- ---- children
@@ -193,21 +195,15 @@ compound_kind HeightField e = absurd (passes false e)
 compound_kind Voxels e = absurd (passes false e)
 compound_kind Other e = absurd (passes false e)
 
+listed_short : (cs : List Child) (o : Option Listed) → length (listed_of cs o) ≤ 16
+listed_short cs None = omega arith
+listed_short cs (Some l) = short_or_none (part_of cs l.first l.count) (is_compound l.kind) (part_short cs l.first l.count)
+
 short : (ss : List Listed) (cs : List Child) (o : Option Listed) → length (parts_of ss cs o) ≤ 16
-short ss cs None = omega arith
-short ss cs (Some l) =
-    let p = part_of cs l.first l.count in
-    short_or_none (fitting_of ss p) (is_compound l.kind) (passing_short (child_fits ss) p (part_short cs l.first l.count))
+short ss cs o = passing_short (child_fits ss) (listed_of cs o) (listed_short cs o)
 
-if_fit : (ss : List Listed) (l : List Child) (b : Bool) → T (all_fit ss l) → T (all_fit ss (cond b l []))
-if_fit ss l true h = h
-if_fit ss l false h = tt
-
-parts_fit : (ss : List Listed) (cs : List Child) (o : Option Listed) → T (all_fit ss (parts_of ss cs o))
-parts_fit ss cs None = tt
-parts_fit ss cs (Some l) =
-    let p = part_of cs l.first l.count in
-    if_fit ss (fitting_of ss p) (is_compound l.kind) (passing_pass (child_fits ss) p)
+parts_fit : (ss : List Listed) (cs : List Child) (o : Option Listed) → T (list_all (child_fits ss) (parts_of ss cs o))
+parts_fit ss cs o = passing_pass (child_fits ss) (listed_of cs o)
 
 -- a Compound that is known has children
 some_by : (s : Listed) (n : ℕ) (b e : Bool) → (n == 0) ≡ e → is_compound s.kind ≡ b → kind_of (cond (b && e) None (Some s)) ≡ Some Compound → 1 ≤ n
@@ -222,16 +218,16 @@ some_children None l h = let z : ◌≡◌ {A = ℕ} 0 1 = cc in absurd (omega a
 some_children (Some s) l h = some_by s (length l) (is_compound s.kind) (length l == 0) refl refl h
 
 -- what has children is a Compound
-compound_by : (s : Listed) (l : List Child) (b : Bool) → is_compound s.kind ≡ b → 1 ≤ length (cond b l []) → kind_of (cond (is_compound s.kind && length (cond b l []) == 0) None (Some s)) ≡ Some Compound
-compound_by s l false k h = absurd (omega arith)
-compound_by s l true k h =
-    ap (λ (b : Bool). kind_of (cond (b && length l == 0) None (Some s))) k
-    ∙ (ap (λ (b : Bool). kind_of (cond b None (Some s))) (ne_eqb (length l) 0 (λ q. omega arith))
+compound_by : (f : Child → Bool) (s : Listed) (l : List Child) (b : Bool) → is_compound s.kind ≡ b → 1 ≤ length (passing f (cond b l [])) → kind_of (cond (is_compound s.kind && length (passing f (cond b l [])) == 0) None (Some s)) ≡ Some Compound
+compound_by f s l false k h = absurd (omega arith)
+compound_by f s l true k h =
+    ap (λ (b : Bool). kind_of (cond (b && length (passing f l) == 0) None (Some s))) k
+    ∙ (ap (λ (b : Bool). kind_of (cond b None (Some s))) (ne_eqb (length (passing f l)) 0 (λ q. omega arith))
     ∙ ap (λ (k : ShapeKind). Some k) (compound_kind s.kind k))
 
 compound : (ss : List Listed) (cs : List Child) (o : Option Listed) → 1 ≤ length (parts_of ss cs o) → kind_of (known_of o (parts_of ss cs o)) ≡ Some Compound
 compound ss cs None h = absurd (omega arith)
-compound ss cs (Some s) h = compound_by s (fitting_of ss (part_of cs s.first s.count)) (is_compound s.kind) refl h
+compound ss cs (Some s) h = compound_by (child_fits ss) s (part_of cs s.first s.count) (is_compound s.kind) refl h
 
 -- a child that fits: its entry, which is no Compound
 abbrev Piece : Option Listed → Type 0

@@ -1,5 +1,5 @@
 -- The recorded host's answers. Assumes nothing.
-use Rattle.std.specs.Prelude.{ℕ, Bool, true, false, cond, not, ◌&&◌, List, [], ◌∷◌, length, Some, None, Option, ◌==◌, Float}
+use Rattle.std.specs.Prelude.{ℕ, Bool, true, false, cond, not, ◌&&◌, List, [], length, find, Some, None, Option, Ok, ◌==◌, Float}
 use Rattle.std.specs.Float.Ieee.{fits, le, lt}
 use Rattle.std.specs.Float.{is_sign_negative, binary32}
 use Rattle.std.specs.List.{slice_get}
@@ -13,14 +13,10 @@ use Rattle.geometry.specs.Poses.{is_identity, ranged_pose}
 use Rattle.geometry.specs.Boxes.{around_of, moved_by}
 use Rattle.outcomes.specs.declared.cast_outcome.CastOutcome.{CastOutcome}
 use Rattle.outcomes.specs.declared.cast_outcome.CastOutcome.TheVariants.{Separated}
-use Rattle.outcomes.specs.declared.turning_outcome.TurningOutcome.{TurningOutcome}
-use Rattle.outcomes.specs.declared.turning_outcome.TurningOutcome.TheVariants.{Time, Nothing}
-use Rattle.outcomes.specs.declared.overlap.Overlap.{Overlap}
-use Rattle.outcomes.specs.declared.overlap.Overlap.TheVariants.{No}
-use Rattle.outcomes.specs.Outcomes.{fraction_of, yes_or_no}
+use Rattle.outcomes.specs.Outcomes.{Overlap, TurningOutcome, fraction_of}
 use Rattle.hosts.specs.declared.questions.Child.{Child}
 use Rattle.hosts.specs.Hosts.{Answers}
-use Rattle.hosts.specs.Children.{part_of, all_pass, passing}
+use Rattle.hosts.specs.Children.{part_of, passing}
 use Rattle.hosts.specs.Turnless.{admitted, product_of, inverse_of, relative_of, pose_along}
 use Rattle.recorded.specs.declared.rows.Listed.{Listed}
 use Rattle.recorded.specs.declared.rows.Row.{Row}
@@ -56,18 +52,15 @@ is_piece (Some l) = not (is_compound l.kind)
 abbrev pub child_fits : List Listed → Child → Bool
 child_fits ss c = is_piece (entry_of ss c.shape) && (ranged_pose million c.pose && is_identity c.pose.rotation)
 
-abbrev pub all_fit : List Listed → List Child → Bool
-all_fit ss l = all_pass (child_fits ss) l
+-- the children that are listed of a Compound, and of no other shape
+abbrev pub listed_of : List Child → Option Listed → List Child
+listed_of cs None = []
+listed_of cs (Some l) = cond (is_compound l.kind) (part_of cs l.first l.count) []
 
--- the children, if they all fit
-abbrev pub fitting_of : List Listed → List Child → List Child
-fitting_of ss l = passing (child_fits ss) l
-
+-- the same of a Compound that is known: its children all fit
 abbrev pub parts_of : List Listed → List Child → Option Listed → List Child
-parts_of ss cs None = []
-parts_of ss cs (Some l) = cond (is_compound l.kind) (fitting_of ss (part_of cs l.first l.count)) []
+parts_of ss cs o = passing (child_fits ss) (listed_of cs o)
 
--- the children of a Compound that is known, and of no other shape
 abbrev pub children_of : List Listed → List Child → ℕ → List Child
 children_of ss cs i = parts_of ss cs (entry_of ss i)
 
@@ -107,8 +100,7 @@ counts r f t = r.fast == f && (r.target == t && row_fits r)
 
 -- the first such row
 abbrev pub row_of : List Row → ℕ → ℕ → Option Row
-row_of [] f t = None
-row_of (r ∷ rs) f t = cond (counts r f t) (Some r) (row_of rs f t)
+row_of rs f t = find (λ r. counts r f t) rs
 
 -- above the cap a cast is separated at it
 abbrev pub at_cap : CastOutcome → Float → CastOutcome
@@ -119,20 +111,18 @@ abbrev pub cast_of : Option Row → Float → CastOutcome
 cast_of None c = Separated c
 cast_of (Some r) c = at_cap r.cast c
 
-abbrev pub time_from : Option Float → TurningOutcome
-time_from None = Nothing
-time_from (Some t) = Time t
-
+-- a time that is missing is no meeting
 abbrev pub time_of : Option Row → TurningOutcome
-time_of None = Nothing
-time_of (Some r) = time_from r.time
+time_of None = Ok None
+time_of (Some r) = Ok r.time
 
+-- an overlap that is missing is none
 abbrev pub overlap_from : Option Bool → Overlap
-overlap_from None = No
-overlap_from (Some b) = yes_or_no b
+overlap_from None = Ok false
+overlap_from (Some b) = Ok b
 
 abbrev pub overlap_of : Option Row → Overlap
-overlap_of None = No
+overlap_of None = Ok false
 overlap_of (Some r) = overlap_from r.overlap
 
 -- ---- all of it

@@ -2,7 +2,7 @@
 ghost use Rattle.recorded.specs.Records.{recorded_answers};
 ghost use Rattle.recorded.specs.RecordLaws.{recorded_lawful};
 
-use crate::rows::{Recorded, row_of};
+use crate::rows::Recorded;
 use geometry::{Aabb, Pose, ShapeKind, Vector};
 use hosts::{CastQuery, Child, Host, Sweep, TurningQuery, turnless};
 use outcomes::{CastOutcome, Overlap, PairKind, TurningOutcome};
@@ -13,16 +13,14 @@ impl<'a> Host for Recorded<'a> {
     ghost lawful = { λ h. recorded_lawful h.shapes.now h.children.now h.rows.now };
 
     fn kind(&self, shape: u32) -> Option<ShapeKind> {
-        match self.known(shape) {
-            Some(listed) => Some(listed.kind),
-            None => None,
-        }
+        self.known(shape).map(|listed| listed.kind)
     }
 
     fn children(&self, shape: u32) -> &[Child] {
         self.parts(shape)
     }
 
+    // these five answers stand in both hosts: a default in `Host` would be one for hosts whose poses turn, too
     fn admits(&self, pose: Pose) -> bool {
         turnless::admits(pose)
     }
@@ -40,10 +38,9 @@ impl<'a> Host for Recorded<'a> {
     }
 
     fn aabb(&self, shape: u32, pose: Pose) -> Aabb {
-        match self.known(shape) {
-            Some(listed) => listed.aabb.moved(pose.translation),
-            None => Aabb::around(pose.translation, Vector::zero()),
-        }
+        let empty = Aabb::around(pose.translation, Vector::zero());
+        self.known(shape)
+            .map_or(empty, |listed| listed.aabb.moved(pose.translation))
     }
 
     fn pose_at(&self, sweep: Sweep, fraction: f32) -> Pose {
@@ -59,16 +56,14 @@ impl<'a> Host for Recorded<'a> {
     }
 
     fn turning_cast(&self, query: TurningQuery, pair: PairKind) -> TurningOutcome {
-        match row_of(self.rows, query.fast, query.target) {
-            Some(row) => row.turning(),
-            None => TurningOutcome::Nothing,
-        }
+        Ok(
+            self.row_of(query.fast, query.target)
+                .and_then(|row| row.time),
+        )
     }
 
     fn overlap(&self, relative: Pose, first: u32, second: u32) -> Overlap {
-        match row_of(self.rows, first, second) {
-            Some(row) => row.overlaps(),
-            None => Overlap::No,
-        }
+        let overlap = self.row_of(first, second).and_then(|row| row.overlap);
+        Ok(overlap.unwrap_or(false))
     }
 }

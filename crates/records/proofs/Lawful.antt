@@ -9,7 +9,7 @@ use Rattle.records.specs.declared.fault.Fault.TheVariants.{Full, NotLive}
 use Rattle.records.specs.declared.collider_list.ColliderList.{ColliderList}
 use Rattle.records.specs.Lists.{blank_handle, tabled, empty_list, counted, listed, place, attached, closed, detached_at, detached}
 use Rattle.records.specs.ListLaws.{Without, Blanked, ListLaws}
-use Rattle.records.proofs.Members.{without, without_none, without_some, without_last, place_last, parted, listed_decides}
+use Rattle.records.proofs.Members.{without, without_none, without_some, without_last, place_last, parted, listed_decides, placed_lem}
 use Rattle.records.proofs.Tables.{length_closed, get_d_closed, closed_none, listed_push, listed_cut}
 
 abbrev Step : Type 0
@@ -91,7 +91,7 @@ module _ (l : ColliderList) (h : ColliderHandle) where
 
   takes_out : counted l ≡ true → (detached l h).1 ≡ Ok tt → Without h (listed l) (listed (detached l h).0)
   takes_out c e =
-      let m = (listed_decides h (listed l)).0 (cut_has (place h 0 (listed l)) e) in
+      let m = (listed_decides h (listed l)).0 (sym (placed_lem h (listed l) 0) ∙ cut_has (place h 0 (listed l)) e) in
       subst (λ (ys : List ColliderHandle). Without h (listed l) ys) (sym (listed_detached c)) (parted h (listed l) m)
 
   cut_missing : (o : Option ℕ) → ((detached_at l (min l.count 8) o).1 ≡ Err (NotLive 0) → is_some o ≡ false) × (is_some o ≡ false → (detached_at l (min l.count 8) o).1 ≡ Err (NotLive 0))
@@ -103,8 +103,8 @@ module _ (l : ColliderList) (h : ColliderHandle) where
       let o = place h 0 (listed l) in
       let d = listed_decides h (listed l) in
       let m = cut_missing o in (
-        λ e x. let a = m.0 e in let b = d.1 x in let z : ◌≡◌ {A = Bool} true false = sym b ∙ a in grind arith,
-        λ n. m.1 (unlisted (is_some o) (λ t. n (d.0 t))),
+        λ e x. let a = m.0 e in let b = placed_lem h (listed l) 0 ∙ d.1 x in let z : ◌≡◌ {A = Bool} true false = sym b ∙ a in grind arith,
+        λ n. m.1 (unlisted (is_some o) (λ t. n (d.0 (sym (placed_lem h (listed l) 0) ∙ t)))),
       )
 
   cut_counted : (o : Option ℕ) → counted l ≡ true → place h 0 (listed l) ≡ o → counted (detached_at l (min l.count 8) o).0 ≡ true

@@ -42,24 +42,33 @@ has_cases P x y xs f g (zero, l, e) = f (e x)
 has_cases P x y xs f g (suc k, l, e) = g (k, omega arith, e)
 
 module _ (h : ColliderHandle) where
-  placed_has : (xs : List ColliderHandle) (i : ℕ) → is_some (place h i xs) ≡ true → Has xs h
-  placed_has [] i e = absurd (grind arith)
-  placed_has (x ∷ xs) i e =
+  listed_has : (xs : List ColliderHandle) → listed_in h xs ≡ true → Has xs h
+  listed_has [] e = absurd (grind arith)
+  listed_has (x ∷ xs) e =
       ⊎_elim
       (λ (b : same x.0 h.0 ≡ true). subst (λ (y : ColliderHandle). Has (x ∷ xs) y) (same_collider_lem x h b) (has_first x xs))
-      (λ (b : same x.0 h.0 ≡ false). has_rest x h xs (placed_has xs (i + 1) (grind arith)))
+      (λ (b : same x.0 h.0 ≡ false). has_rest x h xs (listed_has xs (grind arith)))
       (cases_Bool (same x.0 h.0))
 
-  has_placed : (xs : List ColliderHandle) (i : ℕ) → Has xs h → is_some (place h i xs) ≡ true
-  has_placed [] i m = absurd (has_none h m)
-  has_placed (x ∷ xs) i m =
-      has_cases (is_some (place h i (x ∷ xs)) ≡ true) x h xs
+  has_listed : (xs : List ColliderHandle) → Has xs h → listed_in h xs ≡ true
+  has_listed [] m = absurd (has_none h m)
+  has_listed (x ∷ xs) m =
+      has_cases (listed_in h (x ∷ xs) ≡ true) x h xs
       (λ e. let s : same x.0 h.0 ≡ true = rw e (same_self h.0) in grind arith)
-      (λ r. let s = has_placed xs (i + 1) r in grind arith)
+      (λ r. let s = has_listed xs r in grind arith)
       m
 
   pub listed_decides : (xs : List ColliderHandle) → Decides (listed_in h xs) (Has xs h)
-  listed_decides xs = (placed_has xs 0, has_placed xs 0)
+  listed_decides xs = (listed_has xs, has_listed xs)
+
+  -- what is listed has a place
+  pub placed_lem : (xs : List ColliderHandle) (i : ℕ) → is_some (place h i xs) ≡ listed_in h xs
+  placed_lem [] i = refl
+  placed_lem (x ∷ xs) i = let r = placed_lem xs (i + 1) in
+      ⊎_elim
+      (λ (b : same x.0 h.0 ≡ true). rw b refl)
+      (λ (b : same x.0 h.0 ≡ false). rw b r)
+      (cases_Bool (same x.0 h.0))
 
 -- ---- a list without the first place where a handle stands
 

@@ -1,8 +1,8 @@
 -- A table of which an entry is taken out. Assumes nothing.
-use Rattle.std.proofs.Common.{◌≡◌, ℕ, ◌+◌, ◌-◌, ◌<◌, ◌≤◌, min, cond, ltb, ◌≢◌, List, [], ◌∷◌, ◌++◌, length, get_or, take, set, sym, ◌∙◌, subst, ⊎_elim, arith, rules}
-use Rattle.std.proofs.lemmas.List.{places, same_lists, get_or-set_same, get_or-set_other, length-set, get_or_default, take_more_set, take-set, get_or-take, length-take-le}
+use Rattle.std.proofs.Common.{◌≡◌, ℕ, ◌+◌, ◌-◌, ◌<◌, ◌≤◌, min, cond, ltb, List, [], ◌∷◌, ◌++◌, length, get_or, take, set, sym, ◌∙◌, ⊎_elim, arith, rules}
+use Rattle.std.proofs.lemmas.List.{places, same_lists, take_more_set, take-set, get_or-take, length-take-le}
 use Rattle.std.proofs.lemmas.List.Edits.{length-remove, get_or-remove_below, get_or-remove_above}
-use Rattle.std.proofs.lemmas.Bool.{cases_eq, cases_lt, lt-ltb, le-ltb}
+use Rattle.std.proofs.lemmas.Bool.{cases_lt, lt-ltb, le-ltb}
 use Rattle.std.specs.List.{remove}
 use Rattle.std.proofs.lemmas.Bool.Decides.{nat_tests}
 use Rattle.geometry.specs.declared.handle.ColliderHandle.{ColliderHandle}
@@ -17,26 +17,6 @@ module _ (t : List ColliderHandle) (i n : ℕ) (in' : i < n) (le : n ≤ length 
 
 pub closed_none : (t : List ColliderHandle) (i : ℕ) → i < length t → t ≡ closed t i (i + 1)
 closed_none t i h = same_lists _ _ (search (rules, places)) (λ k d h. grind (arith, places))
-
-pub closed_more : (t : List ColliderHandle) (i n : ℕ) (d : ColliderHandle) → i < n → n < length t
-    → set (closed t i n) (n - 1) (get_or (closed t i n) n d) ≡ closed t i (n + 1)
-closed_more t i n d h l =
-    let le : n ≤ length t = omega arith in
-    let i< : i < n + 1 = omega arith in
-    let n< : n + 1 ≤ length t = omega arith in
-    let x = get_or (closed t i n) n d in
-    same_lists (set (closed t i n) (n - 1) x) (closed t i (n + 1))
-    (length-set (closed t i n) (n - 1) x ∙ length_closed t i n h le ∙ sym (length_closed t i (n + 1) i< n<))
-    (λ k e _. let r = get_d_closed t i (n + 1) i< n< k e in ⊎_elim
-    (λ (p : k ≡ n - 1).
-    let w : n - 1 < length (closed t i n) = rw length_closed (omega arith) in
-    let a = get_or-set_same (closed t i n) (n - 1) x e w in
-    let b = get_d_closed t i n h le n d in
-    let q = get_or_default t n d e l in
-    let m : k + 1 ≡ n = omega arith in
-    subst (λ j. get_or (set (closed t i n) (n - 1) x) j e ≡ get_or (closed t i (n + 1)) k e) (sym p) (a ∙ (b ∙ grind (arith, nat_tests))))
-    (λ (p : k ≢ n - 1). let a = get_or-set_other (closed t i n) (n - 1) k x e p in let b = get_d_closed t i n h le k e in grind (arith, nat_tests))
-    (cases_eq k (n - 1)))
 
 -- what is listed after a handle is put last, or taken out
 pub listed_push : (t : List ColliderHandle) (n : ℕ) (h : ColliderHandle) → length t ≡ 8 → n < 8

@@ -1,17 +1,14 @@
 -- The tests of exact equality decide it. Assumes nothing.
-use Rattle.std.proofs.Common.{◌≡◌, ℕ, Bool, true, false, cond, ◌&&◌, T, eqb, ℤ, pos, negsuc, Decides, sym, refl, ap, ◌∙◌, subst, arith}
-use lib.Ieee.{Float, nan, inf, fin, binary32, fits, is_nan, eq}
-use Rattle.std.specs.Float.{is_sign_negative}
+use Rattle.std.proofs.Common.{◌≡◌, ℕ, Bool, true, false, ◌&&◌, T, eqb, ℤ, pos, negsuc, Decides, sym, refl, ap, ◌∙◌, subst, arith}
+use lib.Ieee.{Float, nan, inf, fin, binary32, fits, of_bits, to_bits}
+use lib.Ieee.Bits.{of_bits-to_bits}
 use Rattle.std.proofs.lemmas.Bool.{and_parts, and_from, eqb-true, eq-eqb}
 use Rattle.std.proofs.lemmas.Bool.Decides.{Decides-and, Decides-like, same_from_decides}
-use Rattle.numbers.specs.Reals.{Number}
-use Rattle.numbers.proofs.Order.{same_refl}
-use Rattle.numbers.proofs.Units.{sign, antisym_sign, same_of_test, test_of_same}
 use Rattle.geometry.specs.declared.vector.Vector.{Vector}
 use Rattle.geometry.specs.declared.pose.Rotation.{Rotation}
 use Rattle.geometry.specs.declared.pose.Pose.{Pose}
 use Rattle.geometry.specs.Vectors.{vector}
-use Rattle.records.specs.Equality.{alike, same_exponent, same_number, tested_same, same_vector, same_rotation, same_pose, EqualityDecides}
+use Rattle.records.specs.Equality.{alike, same_exponent, same_number, same_vector, same_rotation, same_pose, EqualityDecides}
 
 -- ---- numbers, part by part
 
@@ -56,48 +53,17 @@ number_self (fin s m e) = and_from (alike s s) (eqb m m && same_exponent e e) (a
 pub same_number_lem : (a b : Float) → Decides (same_number a b) (a ≡ b)
 same_number_lem a b = (number_out a b, λ e. subst (λ (y : Float). same_number a y ≡ true) e (number_self a))
 
--- ---- what a program tests
+-- ---- by their bits
 
-signed : (x : Float) → is_sign_negative x ≡ sign x
-unfolding is_sign_negative
-signed nan = refl
-signed (inf s) = refl
-signed (fin s m e) = refl
-
-nan_only : (x : Float) → is_nan x ≡ true → nan ≡ x
-unfolding is_nan
-nan_only nan h = refl
-nan_only (inf s) h = absurd (grind arith)
-nan_only (fin s m e) h = absurd (grind arith)
-
-number_by : (x : Float) → is_nan x ≡ false → Number x
-unfolding is_nan
-number_by nan h = absurd (grind arith)
-number_by (inf s) h = tt
-number_by (fin s m e) h = tt
-
-module _ (a b : Float) where
-  tested_out : T (fits binary32 a) → T (fits binary32 b) → (t : Bool) → is_nan a ≡ t → cond t (is_nan b) (eq a b && alike (is_sign_negative a) (is_sign_negative b)) ≡ true → a ≡ b
-  tested_out A B true i h = sym (nan_only a i) ∙ nan_only b h
-  tested_out A B false i h =
-      let p = and_parts (eq a b) (alike (is_sign_negative a) (is_sign_negative b)) h in
-      let g = sym (signed a) ∙ alike_true (is_sign_negative a) (is_sign_negative b) p.1 ∙ signed b in
-      antisym_sign binary32 a b A B g (same_of_test a b p.0)
-
-tested_self : (a : Float) (t : Bool) → is_nan a ≡ t → cond t (is_nan a) (eq a a && alike (is_sign_negative a) (is_sign_negative a)) ≡ true
-tested_self a true i = i
-tested_self a false i =
-    and_from (eq a a) (alike (is_sign_negative a) (is_sign_negative a)) (test_of_same a a (same_refl a (number_by a i))) (alike_self (is_sign_negative a))
-
-tested_decides : (a b : Float) → T (fits binary32 a) → T (fits binary32 b) → Decides (tested_same a b) (a ≡ b)
-tested_decides a b A B = (
-  tested_out a b A B (is_nan a) refl,
-  λ e. subst (λ (y : Float). tested_same a y ≡ true) e (tested_self a (is_nan a) refl),
+-- values of single precision are one where their bits are
+bits_decide : (a b : Float) → T (fits binary32 a) → T (fits binary32 b) → Decides (eqb (to_bits binary32 a) (to_bits binary32 b)) (a ≡ b)
+bits_decide a b A B = (
+  λ h. sym (of_bits-to_bits binary32 a A) ∙ ap (of_bits binary32) (eqb-true _ _ h) ∙ of_bits-to_bits binary32 b B,
+  λ e. eq-eqb _ _ (ap (to_bits binary32) e),
 )
 
--- a value of single precision has one form, so that the test tells the same
-pub tested_same_lem : (a b : Float) → T (fits binary32 a) → T (fits binary32 b) → tested_same a b ≡ same_number a b
-tested_same_lem a b A B = same_from_decides (tested_same a b) (same_number a b) (tested_decides a b A B) (same_number_lem a b)
+pub same_bits : (a b : Float) → T (fits binary32 a) → T (fits binary32 b) → eqb (to_bits binary32 a) (to_bits binary32 b) ≡ same_number a b
+same_bits a b A B = same_from_decides (eqb (to_bits binary32 a) (to_bits binary32 b)) (same_number a b) (bits_decide a b A B) (same_number_lem a b)
 
 -- ---- vectors, turns and poses
 

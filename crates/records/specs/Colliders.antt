@@ -1,9 +1,10 @@
 -- Questions about colliders. Assumes nothing.
 use Rattle.std.specs.Prelude.{ℕ, Bool, true, not, Some, None, Ok, Err, Option, Result, ◌==◌, bit_and}
+use Rattle.std.specs.Option.{option_map}
 use Rattle.geometry.specs.declared.handle.Handle.{Handle}
 use Rattle.geometry.specs.declared.handle.RigidBodyHandle.{RigidBodyHandle}
 use Rattle.geometry.specs.declared.handle.ColliderHandle.{ColliderHandle}
-use Rattle.slots.specs.declared.Fault.{Fault as StoreFault}
+use Rattle.slots.specs.declared.fault.Fault.{Fault as StoreFault}
 use Rattle.slots.specs.Store.{State, next_handle}
 use Rattle.records.specs.declared.fault.Fault.{Fault}
 use Rattle.records.specs.declared.rigid_body.RigidBody.{RigidBody}
@@ -19,8 +20,7 @@ has_bit n = not (bit_and n 1 == 0)
 
 -- the body that a collider is attached to
 abbrev pub body_of : Option ColliderParent → Option RigidBodyHandle
-body_of None = None
-body_of (Some p) = Some p.body
+body_of p = option_map (λ x. x.body) p
 
 -- no body, or a Fixed one
 abbrev pub at_rest : Option RigidBody → Bool

@@ -1,7 +1,6 @@
 -- Exact equality of numbers and poses. Assumes nothing.
-use Rattle.std.specs.Prelude.{◌≡◌, Bool, true, false, cond, not, ◌&&◌, ℤ, pos, negsuc, Decides, ◌==◌, is_nan, Float}
-use Rattle.std.specs.Float.Ieee.{eq}
-use Rattle.std.specs.Float.{is_sign_negative, nan, inf, fin}
+use Rattle.std.specs.Prelude.{◌≡◌, Bool, true, false, cond, not, ◌&&◌, ℤ, pos, negsuc, Decides, ◌==◌, Float}
+use Rattle.std.specs.Float.{nan, inf, fin}
 use Rattle.geometry.specs.declared.vector.Vector.{Vector}
 use Rattle.geometry.specs.declared.pose.Rotation.{Rotation}
 use Rattle.geometry.specs.declared.pose.Pose.{Pose}
@@ -26,10 +25,6 @@ same_number (inf s) (fin t n d) = false
 same_number (fin s m e) nan = false
 same_number (fin s m e) (inf t) = false
 same_number (fin s m e) (fin t n d) = alike s t && (m == n && same_exponent e d)
-
--- how a program tells that, of values of single precision
-abbrev pub tested_same : Float → Float → Bool
-tested_same a b = cond (is_nan a) (is_nan b) (eq a b && alike (is_sign_negative a) (is_sign_negative b))
 
 abbrev pub same_vector : Vector → Vector → Bool
 same_vector a b = same_number a.x b.x && (same_number a.y b.y && same_number a.z b.z)

@@ -1,7 +1,8 @@
 -- The numbers and places of refusals, and what becomes of the store's. Assumes nothing.
-use Rattle.std.specs.Prelude.{◌≡◌, ℕ, ◌≤◌}
-use Rattle.slots.specs.declared.Fault.{Fault as StoreFault}
-use Rattle.slots.specs.declared.Fault.TheVariants as stored
+use Rattle.std.specs.Prelude.{◌≡◌, ℕ, ◌≤◌, List, ◌++◌, codes}
+use Rattle.std.specs.Fmt.{decimal}
+use Rattle.slots.specs.declared.fault.Fault.{Fault as StoreFault}
+use Rattle.slots.specs.declared.fault.Fault.TheVariants as stored
 use Rattle.records.specs.declared.fault.Fault.{Fault}
 use Rattle.records.specs.declared.fault.Fault.TheVariants.{OutOfRange, NotLive, ShapeUnknown, NotMovable, HasColliders, Repeated, Broken, Full, Short}
 
@@ -27,6 +28,18 @@ fault_place (Repeated i) = i
 fault_place Broken = 0
 fault_place Full = 0
 fault_place Short = 0
+
+-- what a refusal prints
+abbrev pub fault_text : Fault → List ℕ
+fault_text OutOfRange = codes "a number is out of range, or a pose is not admitted"
+fault_text (NotLive i) = codes "the handle at place " ++ decimal i ++ codes " is not live"
+fault_text ShapeUnknown = codes "the host does not know the shape"
+fault_text NotMovable = codes "the body cannot be aimed or marked"
+fault_text HasColliders = codes "the body has colliders"
+fault_text (Repeated i) = codes "the handle at place " ++ decimal i ++ codes " stands earlier too"
+fault_text Broken = codes "what is lent breaks a rule"
+fault_text Full = codes "there is no slot left, or no place in a list"
+fault_text Short = codes "a store or a space is too short"
 
 -- what a store refuses is handed on
 abbrev pub raised : StoreFault → Fault

@@ -1,5 +1,6 @@
 -- The list of a body's colliders, on any content of its table. Assumes nothing.
-use Rattle.std.specs.Prelude.{ℕ, ◌+◌, ◌-◌, min, Bool, cond, ◌&&◌, List, [], ◌∷◌, ◌++◌, length, take, drop, replicate, is_some, Some, None, Ok, Err, Option, Result, ◌==◌, nat_le, nat_lt, slice_set}
+use Rattle.std.specs.Prelude.{ℕ, ◌+◌, ◌-◌, min, Bool, cond, ◌&&◌, List, length, take, replicate, Some, None, Ok, Err, Option, Result, ◌==◌, nat_le, nat_lt, slice_set}
+use Rattle.std.specs.List.{list_any, position_from, copy_within}
 use Rattle.geometry.specs.declared.handle.Handle.{Handle}
 use Rattle.geometry.specs.declared.handle.ColliderHandle.{ColliderHandle}
 use Rattle.geometry.specs.Handles.{same}
@@ -30,11 +31,10 @@ listed l = take (min l.count 8) l.handles
 
 -- where a handle first stands in a list that begins at i
 abbrev pub place : ColliderHandle → ℕ → List ColliderHandle → Option ℕ
-place h i [] = None
-place h i (x ∷ xs) = cond (same x.0 h.0) (Some i) (place h (i + 1) xs)
+place h i xs = position_from (λ x. same x.0 h.0) i xs
 
 abbrev pub listed_in : ColliderHandle → List ColliderHandle → Bool
-listed_in h xs = is_some (place h 0 xs)
+listed_in h xs = list_any (λ x. same x.0 h.0) xs
 
 -- a handle is put last, where there is room
 abbrev pub attached : ColliderList → ColliderHandle → ColliderList × Result (Unit {0}) Fault
@@ -42,7 +42,7 @@ attached l h = cond (nat_lt l.count 8) (tabled (slice_set l.handles l.count h) (
 
 -- a table of which n entries are listed, without entry i: those after it move up, and the last stays where it is too
 abbrev pub closed : List ColliderHandle → ℕ → ℕ → List ColliderHandle
-closed t i n = take i t ++ take (n - (i + 1)) (drop (i + 1) t) ++ drop (n - 1) t
+closed t i n = copy_within t (i + 1) n i
 
 -- of n that are listed, the one at i is taken out
 abbrev pub detached_at : ColliderList → ℕ → Option ℕ → ColliderList × Result (Unit {0}) Fault

@@ -26,6 +26,7 @@ pub struct Collider {
     pub enabled: bool,
     pub collision: InteractionGroups,
     pub solver: InteractionGroups,
+    // words of bits, as C lends them: what is not known here is kept
     pub hooks: u32,
     pub events: u32,
 }
@@ -63,10 +64,7 @@ impl Collider {
     pub fn body(&self) -> Option<RigidBodyHandle>
         ensures { result ≡ body_of self.now.parent }
     {
-        match self.parent {
-            Some(parent) => Some(parent.body),
-            None => None,
-        }
+        self.parent.map(|parent| parent.body)
     }
 }
 
@@ -74,10 +72,7 @@ impl Collider {
 pub fn at_rest(body: Option<&RigidBody>) -> bool
     ensures { result ≡ at_rest (option_map (λ x. x.now) body.entry) }
 {
-    match body {
-        Some(body) => body.is_fixed(),
-        None => true,
-    }
+    body.is_none_or(|body| body.is_fixed())
 }
 
 /// The handle that the next collider gets.

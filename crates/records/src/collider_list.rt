@@ -1,6 +1,6 @@
 //! The list of a body's colliders.
-ghost use Rattle.std.specs.Prelude.{◌≡◌, ◌<◌, ◌≤◌, length, IfSome};
-ghost use Rattle.records.specs.Lists.{blank_handle, empty_list, counted, listed, place, listed_in, attached, closed, detached};
+ghost use Rattle.std.specs.Prelude.{◌≡◌, ◌<◌, length, IfSome};
+ghost use Rattle.records.specs.Lists.{blank_handle, empty_list, counted, listed, place, listed_in, attached, detached};
 
 use crate::fault::Fault;
 use geometry::{ColliderHandle, Handle};
@@ -9,6 +9,7 @@ use geometry::{ColliderHandle, Handle};
 pub const MOST_COLLIDERS: usize = 8;
 
 /// A table of eight handles, of which the first `count` are listed, in the order in which they were attached.
+// A table and a count, and no `ArrayVec`: it lies in lent memory, which may hold any count.
 #[derive(Clone, Copy)]
 pub struct ColliderList {
     pub handles: [ColliderHandle; MOST_COLLIDERS],
@@ -40,8 +41,7 @@ impl ColliderList {
     pub fn is_counted(&self) -> bool
         ensures { result ≡ counted self.now }
     {
-        let table = &self.handles[0..];
-        self.count as usize <= table.len()
+        self.count as usize <= self.handles.len()
     }
 
     /// The handles that are listed; all eight where the count is above that.
@@ -49,21 +49,22 @@ impl ColliderList {
         ensures { result.now ≡ listed self.now }
     {
         let count = (self.count as usize).min(MOST_COLLIDERS);
-        &self.handles[0..count]
+        &self.handles[..count]
     }
 
     /// Where the handle first stands.
     pub fn position_of(&self, handle: ColliderHandle) -> Option<usize>
-        ensures { result ≡ place handle 0 (listed self.now) }
+        ensures value { result ≡ place handle 0 (listed self.now) }
+        ensures within { IfSome result (λ i. i < length (listed self.now)) }
     {
-        find(self.as_slice(), handle)
+        self.as_slice().iter().position(|other| *other == handle)
     }
 
     /// Whether the handle is listed.
     pub fn contains(&self, handle: ColliderHandle) -> bool
         ensures { result ≡ listed_in handle (listed self.now) }
     {
-        stands_in(self.as_slice(), handle)
+        self.as_slice().contains(&handle)
     }
 
     /// Puts a handle last.
@@ -83,43 +84,11 @@ impl ColliderList {
     pub fn detach(&mut self, handle: ColliderHandle) -> Result<(), Fault>
         ensures { (self.new, result) ≡ detached self.old handle }
     {
-        let Some(at) = find(self.as_slice(), handle) else {
-            return Err(Fault::NotLive(0));
-        };
-        let count = (self.count as usize).min(MOST_COLLIDERS);
-        close(&mut self.handles, at, count);
+        let at = self.position_of(handle).ok_or(Fault::NotLive(0))?;
+        let count = self.as_slice().len();
+        self.handles.copy_within(at + 1..count, at);
         self.handles[count - 1] = blank();
         self.count = (count - 1) as u32;
         Ok(())
     }
-}
-
-/// Moves what stands after `at`, among the first `count`, up by one.
-fn close(table: &mut [ColliderHandle], at: usize, count: usize)
-    requires { (at < count) × (count ≤ length table.old) }
-    ensures { table.new ≡ closed table.old at count }
-{
-    for next in at + 1..count {
-        table[next - 1] = table[next];
-    }
-}
-
-/// Whether a handle stands in a list.
-pub fn stands_in(list: &[ColliderHandle], handle: ColliderHandle) -> bool
-    ensures { result ≡ listed_in handle list.now }
-{
-    find(list, handle).is_some()
-}
-
-/// Where a handle first stands in a list.
-fn find(list: &[ColliderHandle], handle: ColliderHandle) -> Option<usize>
-    ensures value { result ≡ place handle 0 list.now }
-    ensures within { IfSome result (λ i. i < length list.now) }
-{
-    for (i, other) in list.iter().enumerate() {
-        if other.0.is(handle.0) {
-            return Some(i);
-        }
-    }
-    None
 }

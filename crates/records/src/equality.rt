@@ -1,33 +1,16 @@
 //! Exact equality of numbers and poses.
 ghost use Rattle.std.specs.Prelude.{◌≡◌};
-ghost use Rattle.std.specs.Float.{is_sign_negative};
-ghost use Rattle.records.specs.Equality.{same_number, tested_same, same_vector, same_rotation, same_pose};
+ghost use Rattle.records.specs.Equality.{same_number, same_vector, same_rotation, same_pose};
 
 use geometry::{Pose, Rotation, Vector};
-
-/// Whether the sign is minus. A NaN has none.
-fn is_minus(x: f32) -> bool
-    ensures { result ≡ is_sign_negative x }
-{
-    !x.is_nan() && x.is_sign_negative()
-}
-
-/// The test of `same_number`.
-fn tests_same(a: f32, b: f32) -> bool
-    ensures { result ≡ tested_same a b }
-{
-    if a.is_nan() {
-        b.is_nan()
-    } else {
-        a == b && is_minus(a) == is_minus(b)
-    }
-}
+use std::num::f32_to_bits_with_nan;
 
 /// Whether both are one and the same value. Minus zero is not zero, and a NaN is a NaN.
+// by their bits: `==` takes the zeros for one, and no NaN for itself
 pub fn same_number(a: f32, b: f32) -> bool
     ensures { result ≡ same_number a b }
 {
-    tests_same(a, b)
+    f32_to_bits_with_nan(a) == f32_to_bits_with_nan(b)
 }
 
 pub fn same_vector(a: Vector, b: Vector) -> bool

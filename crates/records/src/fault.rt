@@ -2,6 +2,9 @@
 ghost use Rattle.std.specs.Prelude.{◌≡◌};
 ghost use Rattle.records.specs.Faults.{fault_number, fault_place, raised};
 
+use std::error::Error;
+use std::fmt;
+
 /// The nine refusals, in the order of their numbers. A refusal changes nothing.
 #[derive(Clone, Copy, PartialEq, Eq, Debug)]
 pub enum Fault {
@@ -27,6 +30,7 @@ pub enum Fault {
 
 impl Fault {
     /// The number that stands for it outside: 1 to 9.
+    // no `From`: the number says nothing of the place
     pub fn number(self) -> u8
         ensures { result ≡ fault_number self }
     {
@@ -44,6 +48,7 @@ impl Fault {
     }
 
     /// The place in a list that is at fault, and 0 where there is none.
+    // no `Option`: 0 is what C is told where there is none
     pub fn place(self) -> usize
         ensures { result ≡ fault_place self }
     {
@@ -53,6 +58,29 @@ impl Fault {
         }
     }
 }
+
+impl fmt::Display for Fault {
+    ghost use Rattle.std.specs.Prelude.{Some};
+    ghost use Rattle.records.specs.Faults.{fault_text};
+
+    ghost output = { λ fault. Some (fault_text fault) };
+
+    fn fmt<W: fmt::Write>(&self, f: &mut fmt::Formatter<W>) -> fmt::Result {
+        match self {
+            Fault::OutOfRange => write!(f, "a number is out of range, or a pose is not admitted"),
+            Fault::NotLive(place) => write!(f, "the handle at place {place} is not live"),
+            Fault::ShapeUnknown => write!(f, "the host does not know the shape"),
+            Fault::NotMovable => write!(f, "the body cannot be aimed or marked"),
+            Fault::HasColliders => write!(f, "the body has colliders"),
+            Fault::Repeated(place) => write!(f, "the handle at place {place} stands earlier too"),
+            Fault::Broken => write!(f, "what is lent breaks a rule"),
+            Fault::Full => write!(f, "there is no slot left, or no place in a list"),
+            Fault::Short => write!(f, "a store or a space is too short"),
+        }
+    }
+}
+
+impl Error for Fault {}
 
 /// What the slot store refuses, the bench refuses.
 impl From<slots::Fault> for Fault {

@@ -9,7 +9,7 @@ pub mod laws;
 mod rigid_body;
 
 pub use collider::{Collider, ColliderParent, at_rest, next_collider};
-pub use collider_list::{ColliderList, MOST_COLLIDERS, stands_in};
+pub use collider_list::{ColliderList, MOST_COLLIDERS};
 pub use equality::{same_number, same_pose, same_vector};
 pub use fault::Fault;
 pub use rigid_body::RigidBody;

@@ -23,19 +23,13 @@ impl RigidBody {
     pub fn is_dynamic(&self) -> bool
         ensures { result ≡ is_dynamic self.now.kind }
     {
-        match self.kind {
-            RigidBodyType::Dynamic => true,
-            _ => false,
-        }
+        self.kind == RigidBodyType::Dynamic
     }
 
     pub fn is_fixed(&self) -> bool
         ensures { result ≡ is_fixed self.now.kind }
     {
-        match self.kind {
-            RigidBodyType::Fixed => true,
-            _ => false,
-        }
+        self.kind == RigidBodyType::Fixed
     }
 
     /// Whether it is Dynamic with the bullet switch on.

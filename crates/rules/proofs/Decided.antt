@@ -1,7 +1,8 @@
 -- The tests decide the rules. Assumes nothing.
-use Rattle.std.proofs.Common.{◌≡◌, Bool, true, false, not, ◌&&◌, ◌||◌, eqb, leb, List, length, is_some, Some, None, Decides, Option, refl, subst, arith}
+use Rattle.std.proofs.Common.{◌≡◌, ◌<◌, ◌^◌, Bool, true, false, not, ◌&&◌, ◌||◌, eqb, leb, List, length, is_some, Some, None, Decides, Option, refl, subst, arith}
 use lib.Ieee.Bits.{is_true}
 use Rattle.std.specs.Bool.{passes}
+use Rattle.std.proofs.lemmas.Bool.Decides.{Decides-at}
 use Rattle.std.proofs.lemmas.Bool.{and_parts, and_from, eqb-true, eq-eqb, leb-true, le-leb}
 use Rattle.numbers.specs.Constants.{million}
 use Rattle.geometry.specs.declared.handle.RigidBodyHandle.{RigidBodyHandle}
@@ -99,9 +100,6 @@ module _ (cs : List (Slot Collider)) (h : RigidBodyHandle) (b : RigidBody) where
       (and_from (counted l) (d && o) (counted_list r)
       (and_from d o ((distinct_decides (listed l)).1 r.once) ((owns_all_decides cs h (listed l)).1 r.owned))))
 
-  pub body_decides : Decides (body_holds cs h b) (BodyHolds cs h b)
-  body_decides = (body_out, body_in)
-
 -- ---- colliders
 
 module _ (a : Answers) (bs : List (Slot RigidBody)) (k : ColliderHandle) (c : Collider) where
@@ -150,9 +148,6 @@ module _ (a : Answers) (bs : List (Slot RigidBody)) (k : ColliderHandle) (c : Co
   collider_in r =
       and_from (is_some (a.kind c.shape)) (parent_holds a bs k c.position c.parent) r.known (parent_in c.parent r.attached)
 
-  pub collider_decides : Decides (collider_holds a bs k c) (ColliderHolds a bs k c)
-  collider_decides = (collider_out, collider_in)
-
 -- ---- both stores
 
 module _ (a : Answers) (bs : State RigidBody) (cs : State Collider) where
@@ -162,20 +157,24 @@ module _ (a : Answers) (bs : State RigidBody) (cs : State Collider) where
       let nc = leb (length cs.slots) 1024 in
       let ob = orderly bs in
       let oc = orderly cs in
-      let hb = every_live (body_rule cs.slots) 0 bs.slots in
-      let hc = every_live (collider_rule a bs.slots) 0 cs.slots in
+      let hb = every_live (body_rule cs.slots) bs.slots in
+      let hc = every_live (collider_rule a bs.slots) cs.slots in
       let e1 = and_parts nb (nc && (ob && (oc && (hb && hc)))) e in
       let e2 = and_parts nc (ob && (oc && (hb && hc))) e1.1 in
       let e3 = and_parts ob (oc && (hb && hc)) e2.1 in
       let e4 = and_parts oc (hb && hc) e3.1 in
       let e5 = and_parts hb hc e4.1 in
+      let few_bodies = leb-true (length bs.slots) 256 e1.0 in
+      let few_colliders = leb-true (length cs.slots) 1024 e2.0 in
+      let few : length bs.slots < 2 ^ 32 = omega arith in
+      let few' : length cs.slots < 2 ^ 32 = omega arith in
       record {
-        few_bodies = leb-true (length bs.slots) 256 e1.0;
-        few_colliders = leb-true (length cs.slots) 1024 e2.0;
+        few_bodies = few_bodies;
+        few_colliders = few_colliders;
         bodies_in_order = (orderly_decides bs).0 e3.0;
         colliders_in_order = (orderly_decides cs).0 e4.0;
-        bodies_hold = λ h b f. body_out cs.slots h b ((every_decides (body_rule cs.slots) bs.slots).0 e5.0 h.0 b f);
-        colliders_hold = λ k c f. collider_out a bs.slots k c ((every_decides (collider_rule a bs.slots) cs.slots).0 e5.1 k.0 c f);
+        bodies_hold = λ h b f. body_out cs.slots h b ((every_decides (body_rule cs.slots) bs.slots few).0 e5.0 h.0 b f);
+        colliders_hold = λ k c f. collider_out a bs.slots k c ((every_decides (collider_rule a bs.slots) cs.slots few').0 e5.1 k.0 c f);
       }
 
   stores_in : StoresHold a bs cs → stores_hold a bs cs ≡ true
@@ -184,15 +183,23 @@ module _ (a : Answers) (bs : State RigidBody) (cs : State Collider) where
       let nc = leb (length cs.slots) 1024 in
       let ob = orderly bs in
       let oc = orderly cs in
-      let hb = every_live (body_rule cs.slots) 0 bs.slots in
-      let hc = every_live (collider_rule a bs.slots) 0 cs.slots in
+      let hb = every_live (body_rule cs.slots) bs.slots in
+      let hc = every_live (collider_rule a bs.slots) cs.slots in
+      let few_bodies = r.few_bodies in
+      let few_colliders = r.few_colliders in
+      let few : length bs.slots < 2 ^ 32 = omega arith in
+      let few' : length cs.slots < 2 ^ 32 = omega arith in
       and_from nb (nc && (ob && (oc && (hb && hc)))) (le-leb (length bs.slots) 256 r.few_bodies)
       (and_from nc (ob && (oc && (hb && hc))) (le-leb (length cs.slots) 1024 r.few_colliders)
       (and_from ob (oc && (hb && hc)) ((orderly_decides bs).1 r.bodies_in_order)
       (and_from oc (hb && hc) ((orderly_decides cs).1 r.colliders_in_order)
       (and_from hb hc
-      ((every_decides (body_rule cs.slots) bs.slots).1 (λ h b f. body_in cs.slots (record { 0 = h }) b (r.bodies_hold (record { 0 = h }) b f)))
-      ((every_decides (collider_rule a bs.slots) cs.slots).1 (λ h c f. collider_in a bs.slots (record { 0 = h }) c (r.colliders_hold (record { 0 = h }) c f)))))))
+      ((every_decides (body_rule cs.slots) bs.slots few).1 (λ h b f. body_in cs.slots (record { 0 = h }) b (r.bodies_hold (record { 0 = h }) b f)))
+      ((every_decides (collider_rule a bs.slots) cs.slots few').1 (λ h c f. collider_in a bs.slots (record { 0 = h }) c (r.colliders_hold (record { 0 = h }) c f)))))))
 
   pub stores_decide : Decides (stores_hold a bs cs) (StoresHold a bs cs)
   stores_decide = (stores_out, stores_in)
+
+-- what answers as the test does decides the rules too
+pub decided : (a : Answers) (bs : State RigidBody) (cs : State Collider) (r : Bool) → r ≡ stores_hold a bs cs → Decides r (StoresHold a bs cs)
+decided a bs cs r e = Decides-at r (stores_hold a bs cs) e (stores_decide a bs cs)

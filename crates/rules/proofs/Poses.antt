@@ -1,7 +1,8 @@
 -- The test of every pose that is stored decides that each is admitted. Assumes nothing.
-use Rattle.std.proofs.Common.{◌≡◌, true, List, Some, None, Decides, Option, refl, subst}
+use Rattle.std.proofs.Common.{◌≡◌, Bool, true, List, Some, None, Decides, Option, refl, subst}
 use lib.Ieee.Bits.{is_true}
 use Rattle.std.specs.Bool.{passes}
+use Rattle.std.proofs.lemmas.Bool.Decides.{Decides-at}
 use Rattle.std.proofs.lemmas.Bool.{and_parts, and_from}
 use Rattle.hosts.specs.Hosts.{Answers}
 use Rattle.slots.specs.declared.Slot.{Slot}
@@ -71,3 +72,7 @@ module _ (a : Answers) (bs : List (Slot RigidBody)) (cs : List (Slot Collider)) 
 
   pub admitted_decide : Decides (all_admitted a bs cs) (AllAdmitted a bs cs)
   admitted_decide = (admitted_out, admitted_in)
+
+-- what answers as the test does decides that all are admitted
+pub poses_decided : (a : Answers) (bs : List (Slot RigidBody)) (cs : List (Slot Collider)) (r : Bool) → r ≡ all_admitted a bs cs → Decides r (AllAdmitted a bs cs)
+poses_decided a bs cs r e = Decides-at r (all_admitted a bs cs) e (admitted_decide a bs cs)

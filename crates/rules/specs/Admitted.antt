@@ -1,5 +1,6 @@
 -- Whether the host admits every pose that is stored: as a test, and by name. Assumes nothing.
 use Rattle.std.specs.Prelude.{◌≡◌, Bool, true, ◌&&◌, T, List, Some, None, Option}
+use Rattle.std.specs.Option.{option_map_or}
 use Rattle.geometry.specs.declared.handle.RigidBodyHandle.{RigidBodyHandle}
 use Rattle.geometry.specs.declared.handle.ColliderHandle.{ColliderHandle}
 use Rattle.geometry.specs.declared.pose.Pose.{Pose}
@@ -21,8 +22,7 @@ admitted_from a r b = a.admits (a.product b.position r) && a.admits (a.product b
 
 -- a body that is not live is passed over
 abbrev pub admitted_by : Answers → Pose → Option RigidBody → Bool
-admitted_by a r None = true
-admitted_by a r (Some b) = admitted_from a r b
+admitted_by a r b = option_map_or (admitted_from a r) b true
 
 abbrev pub admitted_at : Answers → List (Slot RigidBody) → Pose → Option ColliderParent → Bool
 admitted_at a bs own None = a.admits own

@@ -1,5 +1,7 @@
 -- The rules on slots, bodies and colliders, as tests. Assumes nothing.
 use Rattle.std.specs.Prelude.{Bool, true, false, not, ◌&&◌, ◌||◌, List, [], ◌∷◌, length, is_some, Some, None, Option, nat_le}
+use Rattle.std.specs.List.{list_all}
+use Rattle.std.specs.Option.{option_map_or}
 use Rattle.numbers.specs.Constants.{million}
 use Rattle.geometry.specs.declared.handle.Handle.{Handle}
 use Rattle.geometry.specs.declared.handle.RigidBodyHandle.{RigidBodyHandle}
@@ -55,8 +57,7 @@ abbrev pub owns : List (Slot Collider) → RigidBodyHandle → ColliderHandle �
 owns cs h k = owned_by h (found cs k.0)
 
 abbrev pub owns_all : List (Slot Collider) → RigidBodyHandle → List ColliderHandle → Bool
-owns_all cs h [] = true
-owns_all cs h (k ∷ ks) = owns cs h k && owns_all cs h ks
+owns_all cs h ks = list_all (owns cs h) ks
 
 -- a list is short, without repetition, and of colliders that name the body
 abbrev pub list_holds : List (Slot Collider) → RigidBodyHandle → ColliderList → Bool
@@ -75,8 +76,7 @@ abbrev pub stands_right : Answers → ColliderHandle → Pose → Pose → Rigid
 stands_right a k own r b = listed_in k (listed b.colliders) && same_pose own (a.product b.position r)
 
 abbrev pub carried_by : Answers → ColliderHandle → Pose → Pose → Option RigidBody → Bool
-carried_by a k own r None = false
-carried_by a k own r (Some b) = stands_right a k own r b
+carried_by a k own r b = option_map_or (stands_right a k own r) b false
 
 -- the body of a collider that has one is live and carries it
 abbrev pub parent_holds : Answers → List (Slot RigidBody) → ColliderHandle → Pose → Option ColliderParent → Bool
@@ -95,4 +95,4 @@ abbrev pub stores_hold : Answers → State RigidBody → State Collider → Bool
 stores_hold a bs cs =
     nat_le (length bs.slots) 256
     && (nat_le (length cs.slots) 1024
-    && (orderly bs && (orderly cs && (every_live (body_rule cs.slots) 0 bs.slots && every_live (collider_rule a bs.slots) 0 cs.slots))))
+    && (orderly bs && (orderly cs && (every_live (body_rule cs.slots) bs.slots && every_live (collider_rule a bs.slots) cs.slots))))

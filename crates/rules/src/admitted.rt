@@ -1,105 +1,62 @@
 //! Whether the host works at every pose that is stored.
-ghost use Rattle.std.specs.Prelude.{◌≡◌, Decides};
-ghost use Rattle.rules.specs.Scans.{record_holds, every_record};
-ghost use Rattle.rules.specs.Admitted.{admitted_body, admitted_from, admitted_collider, all_admitted, AllAdmitted};
+ghost use Rattle.std.specs.Prelude.{◌≡◌};
+ghost use Rattle.rules.specs.Scans.{every_record};
+ghost use Rattle.rules.specs.Admitted.{admitted_body, admitted_from, admitted_collider};
 
+use crate::bench::Bench;
 use geometry::Pose;
 use hosts::Host;
 use records::{Collider, RigidBody};
 use slots::{Slot, get};
 
-/// Whether the host admits both poses of a body.
-fn admits_body<H: Host>(host: &H, body: &RigidBody) -> bool
-    ensures { result ≡ admitted_body (H.answers host.now) body.now }
-{
-    host.admits(body.position) && host.admits(body.next)
-}
-
-/// Whether the host admits what stands at a relative pose of a body, at both poses of the body.
-fn admits_from<H: Host>(host: &H, relative: Pose, body: &RigidBody) -> bool
-    ensures { result ≡ admitted_from (H.answers host.now) relative body.now }
-{
-    host.admits(host.product(body.position, relative))
-        && host.admits(host.product(body.next, relative))
-}
-
-/// Whether the host admits a collider where it stands. One whose body is not live is passed over.
-fn admits_collider<H: Host>(host: &H, bodies: &[Slot<RigidBody>], collider: &Collider) -> bool
-    ensures { result ≡ admitted_collider (H.answers host.now) bodies.now collider.now }
-{
-    let Some(parent) = collider.parent else {
-        return host.admits(collider.position);
-    };
-    match get(bodies, parent.body.0) {
-        Some(body) => admits_from(host, parent.relative, body),
-        None => true,
+impl<H: Host> Bench<'_, H> {
+    /// Whether the host admits both poses of a body.
+    fn admits_body(&self, body: &RigidBody) -> bool
+        ensures { result ≡ admitted_body (H.answers self.now.host.now) body.now }
+    {
+        self.host.admits(body.position) && self.host.admits(body.next)
     }
-}
 
-fn admits_body_slot<H: Host>(host: &H, slot: &Slot<RigidBody>) -> bool
-    ensures { result ≡ record_holds (admitted_body (H.answers host.now)) slot.now }
-{
-    match slot {
-        Slot::Live { value, .. } => admits_body(host, value),
-        _ => true,
+    /// Whether the host admits what stands at a relative pose of a body, at both poses of the body.
+    fn admits_from(&self, relative: Pose, body: &RigidBody) -> bool
+        ensures { result ≡ admitted_from (H.answers self.now.host.now) relative body.now }
+    {
+        self.host.admits(self.host.product(body.position, relative))
+            && self.host.admits(self.host.product(body.next, relative))
     }
-}
 
-fn admits_collider_slot<H: Host>(
-    host: &H,
-    bodies: &[Slot<RigidBody>],
-    slot: &Slot<Collider>,
-) -> bool
-    ensures { result ≡ record_holds (admitted_collider (H.answers host.now) bodies.now) slot.now }
-{
-    match slot {
-        Slot::Live { value, .. } => admits_collider(host, bodies, value),
-        _ => true,
-    }
-}
-
-fn admits_bodies<H: Host>(host: &H, bodies: &[Slot<RigidBody>]) -> bool
-    ensures { result ≡ every_record (admitted_body (H.answers host.now)) bodies.now }
-{
-    for slot in bodies {
-        if !admits_body_slot(host, slot) {
-            return false;
+    /// Whether the host admits a collider where it stands. One whose body is not live is passed over.
+    fn admits_collider(&self, collider: &Collider) -> bool
+        ensures { result ≡ admitted_collider (H.answers self.now.host.now) self.now.bodies.now collider.now }
+    {
+        let Some(parent) = collider.parent else {
+            return self.host.admits(collider.position);
+        };
+        // a match: with `is_none_or` the proof did not close
+        match get(self.bodies, parent.body.0) {
+            Some(body) => self.admits_from(parent.relative, body),
+            None => true,
         }
     }
-    true
-}
 
-fn admits_colliders<H: Host>(
-    host: &H,
-    bodies: &[Slot<RigidBody>],
-    colliders: &[Slot<Collider>],
-) -> bool
-    ensures { result ≡ every_record (admitted_collider (H.answers host.now) bodies.now) colliders.now }
-{
-    for slot in colliders {
-        if !admits_collider_slot(host, bodies, slot) {
-            return false;
-        }
+    /// Whether the host admits the poses of each body.
+    // not `live_records`, which ends at the last slot that has a number: this speaks of every slot
+    pub(crate) fn admits_bodies(&self) -> bool
+        ensures { result ≡ every_record (admitted_body (H.answers self.now.host.now)) self.now.bodies.now }
+    {
+        self.bodies.iter().all(|slot| match slot {
+            Slot::Live { value, .. } => self.admits_body(value),
+            _ => true,
+        })
     }
-    true
-}
 
-/// The tests of `admits_all`.
-fn admits<H: Host>(host: &H, bodies: &[Slot<RigidBody>], colliders: &[Slot<Collider>]) -> bool
-    ensures { result ≡ all_admitted (H.answers host.now) bodies.now colliders.now }
-{
-    admits_bodies(host, bodies) && admits_colliders(host, bodies, colliders)
-}
-
-/// Whether the host admits each live body's two poses, their products with the relative poses of its colliders, and the own poses of
-/// the colliders without a body.
-pub fn admits_all<H: Host>(
-    host: &H,
-    bodies: &[Slot<RigidBody>],
-    colliders: &[Slot<Collider>],
-) -> bool
-    ensures value { result ≡ all_admitted (H.answers host.now) bodies.now colliders.now }
-    ensures decides { Decides result (AllAdmitted (H.answers host.now) bodies.now colliders.now) }
-{
-    admits(host, bodies, colliders)
+    /// Whether the host admits each collider where it stands.
+    pub(crate) fn admits_colliders(&self) -> bool
+        ensures { result ≡ every_record (admitted_collider (H.answers self.now.host.now) self.now.bodies.now) self.now.colliders.now }
+    {
+        self.colliders.iter().all(|slot| match slot {
+            Slot::Live { value, .. } => self.admits_collider(value),
+            _ => true,
+        })
+    }
 }

@@ -3,10 +3,9 @@
 #![tactic(auto)]
 
 mod admitted;
+mod bench;
 mod bodies;
 mod colliders;
 pub mod laws;
-mod stores;
 
-pub use admitted::admits_all;
-pub use stores::{MOST_BODY_SLOTS, MOST_COLLIDER_SLOTS, stores_hold};
+pub use bench::{Bench, MOST_BODY_SLOTS, MOST_COLLIDER_SLOTS};

@@ -1,4 +1,3 @@
-pub mod ChildWords
 pub mod Kept
 pub mod Ignored
 pub mod Sayings

@@ -1,28 +1,18 @@
--- Words that are one of a few, and words that may not be missing. Assumes nothing.
-use Rattle.std.specs.Prelude.{ℕ, Bool, true, false, cond, List, length, Some, None, Ok, Err, codes, Option, Result, ◌==◌, Float}
+-- Words that are one of a few. Assumes nothing.
+use Rattle.std.specs.Prelude.{ℕ, Bool, true, false, cond, List, Some, None, Ok, Err, codes, Option, Result, Float}
 use Rattle.std.specs.Str.{bytes_eq}
 use Rattle.geometry.specs.declared.shape_kind.ShapeKind.{ShapeKind}
 use Rattle.geometry.specs.declared.shape_kind.ShapeKind.TheVariants.{Proxy, Compound, TriMesh, Polyline, HeightField, Voxels, Other}
 use Rattle.outcomes.specs.declared.cast_outcome.CastOutcome.{CastOutcome}
-use Rattle.outcomes.specs.declared.cast_outcome.CastOutcome.TheVariants as casts
+use Rattle.outcomes.specs.declared.cast_outcome.CastOutcome.TheVariants.{Hit, Failed, Overlapped, Separated}
 use Rattle.outcomes.specs.declared.pair_kind.PairKind.{PairKind}
 use Rattle.outcomes.specs.declared.pair_kind.PairKind.TheVariants.{Solid, Pseudo}
 use Rattle.texts.specs.declared.trouble.Trouble.{Trouble}
-use Rattle.texts.specs.declared.trouble.Trouble.TheVariants.{MissingWord, NotAKind, NotAStatus, NotAHost, NotAPair, NotAnOverlap}
+use Rattle.texts.specs.declared.trouble.Trouble.TheVariants.{NotAKind, NotAStatus, NotAHost, NotAPair, NotAnOverlap}
 use Rattle.texts.specs.Reals.{number_of}
 use Rattle.texts.specs.Places.{and_then}
 use Rattle.script.specs.declared.command.HostChoice.{HostChoice}
 use Rattle.script.specs.declared.command.HostChoice.TheVariants.{Slide, Recorded}
-use Rattle.script.specs.declared.choices.Status.{Status}
-use Rattle.script.specs.declared.choices.Status.TheVariants.{Hit, Failed, Overlapped, Separated}
-
--- an empty word is a missing one
-abbrev pub present : List ℕ → Result (Unit {0}) Trouble
-present w = cond (length w == 0) (Err MissingWord) (Ok tt)
-
--- what a word is read as, where it is not missing
-abbrev pub needed : {A : Type 0} → (List ℕ → Result A Trouble) → List ℕ → Result A Trouble
-needed f w = and_then (present w) (λ _. f w)
 
 abbrev pub host_of : List ℕ → Result HostChoice Trouble
 host_of w =
@@ -39,18 +29,13 @@ kind_of w =
     (cond (bytes_eq w (codes "voxels")) (Ok Voxels)
     (cond (bytes_eq w (codes "other")) (Ok Other) (Err NotAKind)))))))
 
-abbrev pub status_of : List ℕ → Result Status Trouble
+-- how a cast ended, of which the fraction is told after it
+abbrev pub status_of : List ℕ → Result (Float → CastOutcome) Trouble
 status_of w =
     cond (bytes_eq w (codes "hit")) (Ok Hit)
     (cond (bytes_eq w (codes "failed")) (Ok Failed)
     (cond (bytes_eq w (codes "overlapped")) (Ok Overlapped)
     (cond (bytes_eq w (codes "separated")) (Ok Separated) (Err NotAStatus))))
-
-abbrev pub outcome_of : Status → Float → CastOutcome
-outcome_of Hit f = casts.Hit f
-outcome_of Failed f = casts.Failed f
-outcome_of Overlapped f = casts.Overlapped f
-outcome_of Separated f = casts.Separated f
 
 -- a turning time, or none
 abbrev pub time_of : List ℕ → Result (Option Float) Trouble

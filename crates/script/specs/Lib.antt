@@ -1,4 +1,6 @@
 pub mod Choices
 pub mod Parts
+pub mod Verbs
 pub mod Lines
+pub mod Taken
 pub mod Laws

@@ -1,25 +1,23 @@
 //! What a line says.
+use arrayvec::ArrayVec;
 use casts::Flight;
 use geometry::{Aabb, ShapeKind, Vector};
 use hosts::Child;
+use hosts::children::MOST_CHILDREN;
 use recorded::Row;
 
-/// The children of a Compound: the first `count` of the list. The others are blank.
-#[derive(Clone, Copy)]
-pub struct Children {
-    pub list: [Child; 16],
-    pub count: u32,
-}
+/// The children of a Compound.
+pub type Children = ArrayVec<Child, MOST_CHILDREN>;
 
 /// Which host a hall has.
-#[derive(Clone, Copy)]
+#[derive(Clone, Copy, PartialEq, Eq, Debug)]
 pub enum HostChoice {
     Slide,
     Recorded,
 }
 
 /// A line that was read.
-#[derive(Clone, Copy)]
+#[derive(Drop)]
 pub enum Command {
     /// No word.
     Blank,

@@ -7,6 +7,7 @@ mod command;
 pub mod laws;
 mod line;
 mod lines;
+mod verbs;
 
 pub use command::{Children, Command, HostChoice};
 pub use line::{read, word};

@@ -1,5 +1,5 @@
 -- The capped search finds the least impact of what it asks. Assumes nothing.
-use Rattle.std.proofs.Common.{◌≡◌, Bool, true, false, cond, T, List, [], ◌∷◌, ◌++◌, map, Some, None, Option, unwrap_or, sym, refl, ap, ◌∙◌, subst, inl, inr}
+use Rattle.std.proofs.Common.{◌≡◌, Bool, true, false, cond, T, List, [], ◌∷◌, map, Some, None, Option, unwrap_or, sym, refl, ap, ◌∙◌, subst, inl, inr}
 use Rattle.std.specs.List.{ContainsAt as Has}
 use Rattle.std.specs.Bool.{passes}
 use Rattle.std.proofs.lemmas.Bool.{cond-true, cond-false, cond_both, both_ways}
@@ -8,7 +8,7 @@ use Rattle.search.specs.Searches.{accepted, later, sought, least_of}
 use Rattle.search.specs.Laws.{Least, Capped, Accepts, SearchLaws}
 use Rattle.search.proofs.Orders.{holds, Keeps, keeps, not_le_lt}
 use Rattle.search.proofs.Leasts.{least_falls, least_unique}
-use Rattle.search.proofs.Impacts.{none_some, first, least_first, least_absent, least_present, least_admitted}
+use Rattle.search.proofs.Impacts.{first, least_first, least_absent, least_present, least_admitted}
 
 -- ---- how a search goes on
 
@@ -28,11 +28,6 @@ later_value b None c = refl
 later_value b (Some m) c = refl
 
 module _ {Q M : Type 0} (ask : Q → M → Option M) where
-  -- a search of two lists goes on in the second with what it accepted in the first
-  pub sought_split : (c : M) (best : Option M) (xs ys : List Q) → sought ask c best (xs ++ ys) ≡ sought ask c (sought ask c best xs) ys
-  sought_split c best [] ys = refl
-  sought_split c best (x ∷ xs) ys = sought_split c (later best (ask x (unwrap_or best c))) xs ys
-
   -- a search that goes on accepts what a search from the cap reached accepts
   pub sought_on : (c : M) (best : Option M) (qs : List Q) → sought ask c best qs ≡ later best (sought ask (unwrap_or best c) None qs)
   sought_on c best [] = refl
@@ -132,7 +127,7 @@ module _ {M Q : Type 0} (o : Marks M) (ask : Q → M → Option M) (impact : Q �
       by : (l : Option M) → least_of o.le (map impact qs) ≡ l → Least o (Has qs) impact (unwrap_or (accepted o.lt l o.one) o.one)
       by None e =
           let none = least_absent o.le impact qs e in
-          record { attained = inr (refl, none); lowest = λ q m h i. absurd (none_some m (sym (none q h) ∙ i)) }
+          record { attained = inr (refl, none); lowest = λ q m h i. cc (none q h) }
       by (Some m) e =
           let g = least_present o impact law.marks qs m e in
           subst (λ (z : Option M). Least o (Has qs) impact (unwrap_or z o.one))

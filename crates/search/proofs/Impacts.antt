@@ -1,5 +1,5 @@
 -- The least of a list of impacts is one of them, no impact lies below it, and it turns on the members of the list alone. Assumes nothing.
-use Rattle.std.proofs.Common.{◌≡◌, ℕ, Bool, T, List, [], ◌∷◌, map, Some, None, Option, sym, refl, ap, ◌∙◌, subst, arith}
+use Rattle.std.proofs.Common.{◌≡◌, Bool, T, List, [], ◌∷◌, map, Some, None, Option, sym, refl, ap, ◌∙◌, subst}
 use Rattle.std.specs.List.{ContainsAt as Has}
 use Rattle.std.specs.Bool.{passes}
 use Rattle.std.proofs.lemmas.Bool.{cond_both}
@@ -7,10 +7,6 @@ use Rattle.search.specs.Marks.{Marks}
 use Rattle.search.specs.Searches.{lesser, least_of}
 use Rattle.search.proofs.Members.{has_first, has_rest, has_none, has_cases}
 use Rattle.search.proofs.Orders.{not_le_lt}
-
--- nothing is not something
-pub none_some : {M : Type 0} (m : M) → None ≡ Some m → ⊥
-none_some m e = let z : ◌≡◌ {A = ℕ} 0 1 = cc in omega arith
 
 -- the lesser of an impact and the least of the rest, of those that are there
 abbrev pub first : {M : Type 0} → (M → M → Bool) → Option M → Option M → Option M
@@ -39,7 +35,7 @@ least_absent {M} {Q} le impact (x ∷ qs) e q h =
     by : (y : Option M) → impact x ≡ y → first le y (least_of le (map impact qs)) ≡ None
         → (least_of le (map impact qs) ≡ None → (p : Q) → Has qs p → impact p ≡ None) → impact q ≡ None
     by None i k rest = absent_more impact x qs i (rest k) q h
-    by (Some m) i k rest = absurd (none_some (lesser le m (least_of le (map impact qs))) (sym k))
+    by (Some m) i k rest = cc
 
 -- ---- where one is there
 
@@ -71,8 +67,8 @@ module _ {M Q : Type 0} (o : Marks M) (impact : Q → Option M) (marks : (q : Q)
   -- one question more
   given_more : (x : Q) (qs : List Q) (y l : Option M) → impact x ≡ y → Given qs l → Given (x ∷ qs) (first o.le y l)
   given_more x qs None None i g = absent_more impact x qs i g
-  given_more x qs None (Some n) i g = lowest_rest x qs n (λ k e. absurd (none_some k (sym i ∙ e))) g
-  given_more x qs (Some m) None i g = lowest_first x qs m i (λ q k h e. absurd (none_some k (sym (g q h) ∙ e)))
+  given_more x qs None (Some n) i g = lowest_rest x qs n (λ k e. cc) g
+  given_more x qs (Some m) None i g = lowest_first x qs m i (λ q k h e. cc (g q h))
   given_more x qs (Some m) (Some n) i g =
       let a = marks x m i in
       let b = marks g.0.0 n g.0.2 in
@@ -105,8 +101,8 @@ module _ {M Q : Type 0} (o : Marks M) (impact : Q → Option M) (marks : (q : Q)
     where
       by : (l k : Option M) → Given xs l → Given ys k → l ≡ k
       by None None g h = refl
-      by None (Some n) g h = absurd (none_some n (sym (g h.0.0 (sup h.0.0 h.0.1)) ∙ h.0.2))
-      by (Some m) None g h = absurd (none_some m (sym (h g.0.0 (sub g.0.0 g.0.1)) ∙ g.0.2))
+      by None (Some n) g h = cc (g h.0.0 (sup h.0.0 h.0.1))
+      by (Some m) None g h = cc (h g.0.0 (sub g.0.0 g.0.1))
       by (Some m) (Some n) g h =
           ap Some (o.antisymmetric m n (marks g.0.0 m g.0.2) (marks h.0.0 n h.0.2)
           (g.1 h.0.0 n (sup h.0.0 h.0.1) h.0.2) (h.1 g.0.0 m (sub g.0.0 g.0.1) g.0.2))

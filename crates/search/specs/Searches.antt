@@ -1,6 +1,6 @@
 -- The capped search: what is accepted becomes the cap of what is asked next. Assumes nothing.
-use Rattle.std.specs.Prelude.{Bool, cond, List, [], ◌∷◌, Some, None, Option}
-use Rattle.std.specs.Option.{unwrap_or}
+use Rattle.std.specs.Prelude.{Bool, cond, List, [], ◌∷◌, fold, Some, None, Option}
+use Rattle.std.specs.Option.{unwrap_or, option_or}
 
 -- what is left of an impact under a cap, by the test that accepts it: below the cap, or at most at it
 abbrev pub accepted : {M : Type 0} → (M → M → Bool) → Option M → M → Option M
@@ -9,13 +9,11 @@ accepted test (Some m) c = cond (test m c) (Some m) None
 
 -- what was accepted last
 abbrev pub later : {M : Type 0} → Option M → Option M → Option M
-later best None = best
-later best (Some m) = Some m
+later best o = option_or o best
 
 -- Each of a list is asked under the cap that the last accepted answer set, and under c before there is one.
 abbrev pub sought : {Q M : Type 0} → (Q → M → Option M) → M → Option M → List Q → Option M
-sought ask c best [] = best
-sought ask c best (q ∷ qs) = sought ask c (later best (ask q (unwrap_or best c))) qs
+sought ask c best qs = fold (λ b q. later b (ask q (unwrap_or b c))) best qs
 
 abbrev pub lesser : {M : Type 0} → (M → M → Bool) → M → Option M → M
 lesser le m None = m

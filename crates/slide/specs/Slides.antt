@@ -1,5 +1,6 @@
 -- The slide host's answers. Assumes nothing.
-use Rattle.std.specs.Prelude.{ℕ, Bool, true, false, cond, ◌&&◌, List, [], ◌∷◌, length, Some, None, Option, nat_lt, slice_index_or, Float}
+use Rattle.std.specs.Prelude.{ℕ, Bool, cond, ◌&&◌, List, [], ◌∷◌, length, Some, None, Option, Ok, Err, fold, nat_lt, is_some, option_map, Float}
+use Rattle.std.specs.List.{slice_get, list_any}
 use Rattle.std.specs.Float.Ieee.{le}
 use Rattle.geometry.specs.declared.vector.Vector.{Vector}
 use Rattle.geometry.specs.declared.pose.Pose.{Pose}
@@ -11,12 +12,10 @@ use Rattle.geometry.specs.Poses.{is_identity, ranged_pose, placed}
 use Rattle.geometry.specs.Boxes.{around_of, merged_of, meet_of}
 use Rattle.numbers.specs.Constants.{zero_f, million}
 use Rattle.outcomes.specs.declared.pair_kind.PairKind.{PairKind}
-use Rattle.outcomes.specs.declared.turning_outcome.TurningOutcome.TheVariants.{Unsupported}
-use Rattle.outcomes.specs.Outcomes.{yes_or_no}
 use Rattle.hosts.specs.declared.questions.Child.{Child}
 use Rattle.hosts.specs.declared.questions.CastQuery.{CastQuery}
 use Rattle.hosts.specs.Hosts.{Answers}
-use Rattle.hosts.specs.Children.{part_of, all_pass, passing}
+use Rattle.hosts.specs.Children.{part_of, passing}
 use Rattle.hosts.specs.Turnless.{admitted, product_of, inverse_of, relative_of, pose_along, stroke_of}
 use Rattle.strokes.specs.Strokes.{meeting_of, answered, answered_if_met, counted_for, sooner_of}
 use Rattle.slide.specs.declared.shapes.Shape.{Shape}
@@ -24,40 +23,42 @@ use Rattle.slide.specs.declared.shapes.Shape.TheVariants.{Cuboid, Group}
 
 -- ---- shapes
 
--- past the end of the list there is a Compound of nothing, which is out of range
-abbrev pub shape_at : List Shape → ℕ → Shape
-shape_at ss i = slice_index_or ss i (Group 0 0)
-
 -- half sides from 0 to a million
 abbrev pub sided : Vector → Bool
 sided v = ranged_vector million v && (le zero_f v.x && (le zero_f v.y && le zero_f v.z))
 
-abbrev pub half_of : Shape → Option Vector
-half_of (Cuboid v) = cond (sided v) (Some v) None
-half_of (Group f n) = None
+abbrev pub half_of : Option Shape → Option Vector
+half_of None = None
+half_of (Some (Cuboid v)) = cond (sided v) (Some v) None
+half_of (Some (Group f n)) = None
 
 -- the half sides of a box that is known
 abbrev pub half_sides : List Shape → ℕ → Option Vector
-half_sides ss i = half_of (shape_at ss i)
+half_sides ss i = half_of (slice_get ss i)
+
+-- such a box, at a pose
+abbrev pub cuboid_at : List Shape → ℕ → Pose → Option Aabb
+cuboid_at ss i p = option_map (around_of p.translation) (half_sides ss i)
 
 -- a child is a known box at a pose in range that does not turn
 abbrev pub fits_at : Option Vector → Pose → Bool
-fits_at None p = false
-fits_at (Some v) p = ranged_pose million p && is_identity p.rotation
+fits_at o p = is_some o && (ranged_pose million p && is_identity p.rotation)
 
 abbrev pub child_fits : List Shape → Child → Bool
 child_fits ss c = fits_at (half_sides ss c.shape) c.pose
 
-abbrev pub all_fit : List Shape → List Child → Bool
-all_fit ss cs = all_pass (child_fits ss) cs
+-- the children that are listed of a Compound, and of no other shape
+abbrev pub listed_of : List Child → Option Shape → List Child
+listed_of cs None = []
+listed_of cs (Some (Cuboid v)) = []
+listed_of cs (Some (Group f n)) = part_of cs f n
 
-abbrev pub parts_of : List Shape → List Child → Shape → List Child
-parts_of ss cs (Cuboid v) = []
-parts_of ss cs (Group f n) = passing (child_fits ss) (part_of cs f n)
+-- the same of a Compound that is known: its children all fit
+abbrev pub parts_of : List Shape → List Child → Option Shape → List Child
+parts_of ss cs s = passing (child_fits ss) (listed_of cs s)
 
--- the children of a Compound that is known, and of no other shape
 abbrev pub children_of : List Shape → List Child → ℕ → List Child
-children_of ss cs i = parts_of ss cs (shape_at ss i)
+children_of ss cs i = parts_of ss cs (slice_get ss i)
 
 abbrev pub kind_from : Option Vector → List Child → Option ShapeKind
 kind_from (Some v) l = Some Proxy
@@ -72,58 +73,52 @@ half_or (Some v) = v
 abbrev pub child_box : List Shape → Pose → Child → Aabb
 child_box ss p c = around_of (sum_of p.translation c.pose.translation) (half_or (half_sides ss c.shape))
 
-abbrev pub joined_with : Option Aabb → Aabb → Aabb
-joined_with None b = b
-joined_with (Some a) b = merged_of a b
-
-abbrev pub union_of : List Shape → Pose → Option Aabb → List Child → Option Aabb
-union_of ss p u [] = u
-union_of ss p u (c ∷ cs) = union_of ss p (Some (joined_with u (child_box ss p c))) cs
+-- the union of the boxes of children, if there are any
+abbrev pub union_of : List Shape → Pose → List Child → Option Aabb
+union_of ss p [] = None
+union_of ss p (c ∷ cs) = Some (fold (λ (u : Aabb) d. merged_of u (child_box ss p d)) (child_box ss p c) cs)
 
 abbrev pub box_or : Option Aabb → Pose → Aabb
 box_or None p = around_of p.translation origin
 box_or (Some b) p = b
 
-abbrev pub box_from : List Shape → List Child → Pose → Option Vector → Aabb
-box_from ss l p (Some v) = around_of p.translation v
-box_from ss l p None = box_or (union_of ss p None l) p
+abbrev pub box_from : List Shape → List Child → Pose → Option Aabb → Aabb
+box_from ss l p (Some b) = b
+box_from ss l p None = box_or (union_of ss p l) p
 
 -- ---- casts
 
-abbrev pub met_boxes : CastQuery → Option Vector → Option Vector → Option Float
-met_boxes q None t = None
-met_boxes q (Some v) None = None
-met_boxes q (Some v) (Some t) = meeting_of (around_of q.sweep.start.translation v) (around_of q.pose.translation t) (stroke_of q.sweep)
+abbrev pub met_boxes : CastQuery → Option Aabb → Option Aabb → Option Float
+met_boxes q None b = None
+met_boxes q (Some a) None = None
+met_boxes q (Some a) (Some b) = meeting_of a b (stroke_of q.sweep)
 
 -- the first meeting with a child, of those that count for the pair
-abbrev pub first_meeting : List Shape → Aabb → Vector → Pose → PairKind → Option Float → List Child → Option Float
-first_meeting ss f d p pair best [] = best
-first_meeting ss f d p pair best (c ∷ cs) = first_meeting ss f d p pair (sooner_of best (counted_for (meeting_of f (child_box ss p c) d) pair)) cs
+abbrev pub first_meeting : List Shape → Aabb → CastQuery → PairKind → Option Float → List Child → Option Float
+first_meeting ss f q p best l = fold (λ (o : Option Float) c. sooner_of o (counted_for (meeting_of f (child_box ss q.pose c) (stroke_of q.sweep)) p)) best l
 
-abbrev pub met_children : List Shape → List Child → CastQuery → PairKind → Option Vector → Option Float
+abbrev pub met_children : List Shape → List Child → CastQuery → PairKind → Option Aabb → Option Float
 met_children ss l q p None = None
-met_children ss l q p (Some v) = first_meeting ss (around_of q.sweep.start.translation v) (stroke_of q.sweep) q.pose p None l
+met_children ss l q p (Some f) = first_meeting ss f q p None l
 
 -- ---- overlap
 
 abbrev pub meets_child : List Shape → Pose → Aabb → List Child → Bool
-meets_child ss p b [] = false
-meets_child ss p b (c ∷ cs) = cond (meet_of b (child_box ss p c)) true (meets_child ss p b cs)
+meets_child ss p b l = list_any (λ c. meet_of b (child_box ss p c)) l
 
-abbrev pub meets_from : List Shape → List Child → Pose → Aabb → Option Vector → Bool
-meets_from ss l p b (Some v) = meet_of b (around_of p.translation v)
+abbrev pub meets_from : List Shape → List Child → Pose → Aabb → Option Aabb → Bool
+meets_from ss l p b (Some a) = meet_of b a
 meets_from ss l p b None = meets_child ss p b l
 
 -- a box meets a shape at a pose
 abbrev pub meets_shape : List Shape → List Child → Aabb → ℕ → Pose → Bool
-meets_shape ss cs b i p = meets_from ss (children_of ss cs i) p b (half_sides ss i)
+meets_shape ss cs b i p = meets_from ss (children_of ss cs i) p b (cuboid_at ss i p)
 
 abbrev pub any_meets : List Shape → List Child → ℕ → Pose → List Child → Bool
-any_meets ss cs i p [] = false
-any_meets ss cs i p (c ∷ l) = cond (meets_shape ss cs (child_box ss (placed origin) c) i p) true (any_meets ss cs i p l)
+any_meets ss cs i p l = list_any (λ c. meets_shape ss cs (child_box ss (placed origin) c) i p) l
 
-abbrev pub overlap_from : List Shape → List Child → ℕ → Pose → List Child → Option Vector → Bool
-overlap_from ss cs i p l (Some v) = meets_shape ss cs (around_of origin v) i p
+abbrev pub overlap_from : List Shape → List Child → ℕ → Pose → List Child → Option Aabb → Bool
+overlap_from ss cs i p l (Some b) = meets_shape ss cs b i p
 overlap_from ss cs i p l None = any_meets ss cs i p l
 
 -- ---- all of it
@@ -136,10 +131,10 @@ slide_answers ss cs = record {
   product = product_of;
   inverse_point = inverse_of;
   relative_pose = relative_of;
-  aabb = λ s p. box_from ss (children_of ss cs s) p (half_sides ss s);
+  aabb = λ s p. box_from ss (children_of ss cs s) p (cuboid_at ss s p);
   pose_at = pose_along;
-  proxy_cast = λ q c. answered (met_boxes q (half_sides ss q.fast) (half_sides ss q.target)) c;
-  composite_cast = λ q p c. answered_if_met (met_children ss (children_of ss cs q.target) q p (half_sides ss q.fast)) c;
-  turning_cast = λ q p. Unsupported;
-  overlap = λ p s t. yes_or_no (overlap_from ss cs t p (children_of ss cs s) (half_sides ss s));
+  proxy_cast = λ q c. answered (met_boxes q (cuboid_at ss q.fast q.sweep.start) (cuboid_at ss q.target q.pose)) c;
+  composite_cast = λ q p c. answered_if_met (met_children ss (children_of ss cs q.target) q p (cuboid_at ss q.fast q.sweep.start)) c;
+  turning_cast = λ q p. Err (record {});
+  overlap = λ p s t. Ok (overlap_from ss cs t p (children_of ss cs s) (cuboid_at ss s (placed origin)));
 }

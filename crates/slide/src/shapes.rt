@@ -1,21 +1,21 @@
 //! The slide host: boxes and Compounds of boxes, which never turn.
 ghost use Rattle.std.specs.Prelude.{◌≡◌, None};
-ghost use Rattle.slide.specs.Slides.{half_sides, sided, shape_at, child_fits, all_fit, children_of, child_box, union_of, joined_with, first_meeting, meets_child, meets_shape, any_meets};
+ghost use Rattle.slide.specs.Slides.{half_sides, sided, cuboid_at, child_fits, children_of, child_box, union_of, first_meeting, listed_of, meets_child, meets_shape, any_meets};
+ghost use Rattle.std.specs.List.{slice_get, list_all};
 
 use geometry::{Aabb, Pose, Vector};
-use hosts::Child;
 use hosts::children::part;
+use hosts::{CastQuery, Child, turnless};
+use numbers::RANGE;
 use outcomes::PairKind;
 use strokes::{counted, meeting, sooner};
 
-/// The size up to which a number that is listed goes.
-const RANGE: f32 = 1_000_000.0;
-
 /// A listed shape: a box by its half sides, or a Compound by the place of its first child and their count.
+// the children of all Compounds stand in one list that the caller lends: fixed memory, so a place in it and no tree
 #[derive(Clone, Copy)]
 pub enum Shape {
     Cuboid(Vector),
-    Group(u32, u32),
+    Group { first: u32, count: u32 },
 }
 
 /// The shapes of a hall, and the children of the Compounds among them. What is out of range counts as absent.
@@ -32,136 +32,114 @@ fn is_sided(half: Vector) -> bool
     half.in_range(RANGE) && 0.0 <= half.x && 0.0 <= half.y && 0.0 <= half.z
 }
 
-/// A shape of the list, and past its end a Compound of nothing.
-fn shape_at(shapes: &[Shape], shape: u32) -> Shape
-    ensures { result ≡ shape_at shapes.now shape }
-{
-    let place = shape as usize;
-    if place < shapes.len() {
-        shapes[place]
-    } else {
-        Shape::Group(0, 0)
-    }
-}
-
-/// The half sides of a known box.
-pub fn half_sides(shapes: &[Shape], shape: u32) -> Option<Vector>
-    ensures { result ≡ half_sides shapes.now shape }
-{
-    match shape_at(shapes, shape) {
-        Shape::Cuboid(half) => { if is_sided(half) { Some(half) } else { None } }
-        Shape::Group(_, _) => None,
-    }
-}
-
-/// Whether a child is a known box at a pose in range that does not turn.
-fn child_fits(shapes: &[Shape], child: Child) -> bool
-    ensures { result ≡ child_fits shapes.now child }
-{
-    match half_sides(shapes, child.shape) {
-        Some(_) => child.pose.in_range(RANGE) && child.pose.rotation.is_identity(),
-        None => false,
-    }
-}
-
-fn all_fit(shapes: &[Shape], children: &[Child]) -> bool
-    ensures { result ≡ all_fit shapes.now children.now }
-{
-    for child in children {
-        if !child_fits(shapes, *child) {
-            return false;
-        }
-    }
-    true
-}
-
-/// The box of a child of a Compound that stands at `pose`.
-fn child_box(shapes: &[Shape], pose: Pose, child: Child) -> Aabb
-    ensures { result ≡ child_box shapes.now pose child }
-{
-    let place = pose.translation.plus(child.pose.translation);
-    match half_sides(shapes, child.shape) {
-        Some(half) => Aabb::around(place, half),
-        None => Aabb::around(place, Vector::zero()),
-    }
-}
-
-fn join(union: Option<Aabb>, next: Aabb) -> Aabb
-    ensures { result ≡ joined_with union next }
-{
-    match union {
-        Some(union) => union.merged(next),
-        None => next,
-    }
-}
-
-/// The union of the children's boxes.
-pub fn union_box(shapes: &[Shape], children: &[Child], pose: Pose) -> Option<Aabb>
-    ensures { result ≡ union_of shapes.now pose None children.now }
-{
-    let mut union = None;
-    for child in children {
-        union = Some(join(union, child_box(shapes, pose, *child)));
-    }
-    union
-}
-
-/// When the box `fast`, moved along the stroke, first meets a child of a Compound at `pose`, of the meetings that count for the pair.
-pub fn first_meeting(
-    shapes: &[Shape],
-    children: &[Child],
-    fast: Aabb,
-    stroke: Vector,
-    pose: Pose,
-    pair: PairKind,
-) -> Option<f32>
-    ensures { result ≡ first_meeting shapes.now fast stroke pose pair None children.now }
-{
-    let mut best = None;
-    for child in children {
-        let met = meeting(fast, child_box(shapes, pose, *child), stroke);
-        best = sooner(best, counted(met, pair));
-    }
-    best
-}
-
-/// Whether a box meets that of some child.
-fn meets_child(shapes: &[Shape], children: &[Child], pose: Pose, aabb: Aabb) -> bool
-    ensures { result ≡ meets_child shapes.now pose aabb children.now }
-{
-    for child in children {
-        if aabb.intersects(child_box(shapes, pose, *child)) {
-            return true;
-        }
-    }
-    false
-}
-
 impl Slide<'_> {
-    /// The children of a known Compound.
+    /// The half sides of a known box.
+    pub(crate) fn half_sides(&self, shape: u32) -> Option<Vector>
+        ensures { result ≡ half_sides self.now.shapes.now shape }
+    {
+        match self.shapes.get(shape as usize)? {
+            Shape::Cuboid(half) => is_sided(*half).then_some(*half),
+            Shape::Group { .. } => None,
+        }
+    }
+
+    /// A known box, where it stands at `pose`.
+    pub(crate) fn cuboid_at(&self, shape: u32, pose: Pose) -> Option<Aabb>
+        ensures { result ≡ cuboid_at self.now.shapes.now shape pose }
+    {
+        self.half_sides(shape)
+            .map(|half| Aabb::around(pose.translation, half))
+    }
+
+    /// Whether a child is a known box at a pose in range that does not turn.
+    fn child_fits(&self, child: &Child) -> bool
+        ensures { result ≡ child_fits self.now.shapes.now child.now }
+    {
+        self.half_sides(child.shape).is_some()
+            && child.pose.in_range(RANGE)
+            && child.pose.rotation.is_identity()
+    }
+
+    // the same line in both hosts, over each one's own test: a function that takes the test would ask that it may be called
+    fn all_fit(&self, children: &[Child]) -> bool
+        ensures { result ≡ list_all (child_fits self.now.shapes.now) children.now }
+    {
+        children.iter().all(|child| self.child_fits(child))
+    }
+
+    /// The children that are listed of a shape.
+    fn listed(&self, shape: u32) -> &[Child]
+        ensures { result.now ≡ listed_of self.now.children.now (slice_get self.now.shapes.now shape) }
+    {
+        match self.shapes.get(shape as usize) {
+            Some(Shape::Group { first, count }) => part(self.children, *first, *count),
+            _ => &[],
+        }
+    }
+
+    /// The children of a known Compound: if one of them does not fit, the whole Compound is absent.
     pub fn parts(&self, shape: u32) -> &[Child]
         ensures { result.now ≡ children_of self.now.shapes.now self.now.children.now shape }
     {
-        match shape_at(self.shapes, shape) {
-            Shape::Cuboid(_) => &self.children[0..0],
-            Shape::Group(first, count) => {
-                let part = part(self.children, first, count);
-                if all_fit(self.shapes, part) {
-                    part
-                } else {
-                    &self.children[0..0]
-                }
-            }
-        }
+        let listed = self.listed(shape);
+        if self.all_fit(listed) { listed } else { &[] }
+    }
+
+    /// The box of a child of a Compound that stands at `pose`.
+    fn child_box(&self, pose: Pose, child: &Child) -> Aabb
+        ensures { result ≡ child_box self.now.shapes.now pose child.now }
+    {
+        let place = pose.translation.plus(child.pose.translation);
+        let half = self.half_sides(child.shape).unwrap_or(Vector::zero());
+        Aabb::around(place, half)
+    }
+
+    /// The union of the boxes of children of a Compound that stands at `pose`.
+    pub(crate) fn union_box(&self, children: &[Child], pose: Pose) -> Option<Aabb>
+        ensures { result ≡ union_of self.now.shapes.now pose children.now }
+    {
+        let (first, rest) = children.split_first()?;
+        let first = self.child_box(pose, first);
+        let union = rest.iter().fold(
+            first,
+            |union, child| union.merged(self.child_box(pose, child)),
+        );
+        Some(union)
+    }
+
+    /// When the box `fast`, moved along a sweep, first meets a child of the target, of the meetings that count for the pair.
+    pub(crate) fn first_meeting(
+        &self,
+        children: &[Child],
+        fast: Aabb,
+        query: CastQuery,
+        pair: PairKind,
+    ) -> Option<f32>
+        ensures { result ≡ first_meeting self.now.shapes.now fast query pair None children.now }
+    {
+        let stroke = turnless::stroke(query.sweep);
+        children.iter().fold(None, |best, child| {
+            let met = meeting(fast, self.child_box(query.pose, child), stroke);
+            sooner(best, counted(met, pair))
+        })
+    }
+
+    /// Whether a box meets that of some child of a Compound that stands at `pose`.
+    fn meets_child(&self, children: &[Child], pose: Pose, aabb: Aabb) -> bool
+        ensures { result ≡ meets_child self.now.shapes.now pose aabb children.now }
+    {
+        children
+            .iter()
+            .any(|child| aabb.intersects(self.child_box(pose, child)))
     }
 
     /// Whether a box meets a shape that stands at `pose`.
     pub fn meets_shape(&self, aabb: Aabb, shape: u32, pose: Pose) -> bool
         ensures { result ≡ meets_shape self.now.shapes.now self.now.children.now aabb shape pose }
     {
-        match half_sides(self.shapes, shape) {
-            Some(half) => aabb.intersects(Aabb::around(pose.translation, half)),
-            None => meets_child(self.shapes, self.parts(shape), pose, aabb),
+        match self.cuboid_at(shape, pose) {
+            Some(cuboid) => aabb.intersects(cuboid),
+            None => self.meets_child(self.parts(shape), pose, aabb),
         }
     }
 
@@ -169,12 +147,7 @@ impl Slide<'_> {
     pub fn any_meets(&self, children: &[Child], shape: u32, pose: Pose) -> bool
         ensures { result ≡ any_meets self.now.shapes.now self.now.children.now shape pose children.now }
     {
-        for child in children {
-            let aabb = child_box(self.shapes, Pose::at(Vector::zero()), *child);
-            if self.meets_shape(aabb, shape, pose) {
-                return true;
-            }
-        }
-        false
+        let origin = Pose::at(Vector::zero());
+        children.iter().any(|child| self.meets_shape(self.child_box(origin, child), shape, pose))
     }
 }

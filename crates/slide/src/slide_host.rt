@@ -2,10 +2,10 @@
 ghost use Rattle.slide.specs.Slides.{slide_answers};
 ghost use Rattle.slide.specs.SlideLaws.{slide_lawful};
 
-use crate::shapes::{Slide, first_meeting, half_sides, union_box};
+use crate::shapes::Slide;
 use geometry::{Aabb, Pose, ShapeKind, Vector};
 use hosts::{CastQuery, Child, Host, Sweep, TurningQuery, turnless};
-use outcomes::{CastOutcome, Overlap, PairKind, TurningOutcome};
+use outcomes::{CastOutcome, Overlap, PairKind, TurningOutcome, Unsupported};
 use strokes::{answer, answer_if_met, meeting};
 
 impl<'a> Host for Slide<'a> {
@@ -14,15 +14,9 @@ impl<'a> Host for Slide<'a> {
     ghost lawful = { λ h. slide_lawful h.shapes.now h.children.now };
 
     fn kind(&self, shape: u32) -> Option<ShapeKind> {
-        match half_sides(self.shapes, shape) {
+        match self.half_sides(shape) {
             Some(_) => Some(ShapeKind::Proxy),
-            None => {
-                if 0 < self.parts(shape).len() {
-                    Some(ShapeKind::Compound)
-                } else {
-                    None
-                }
-            }
+            None => (!self.parts(shape).is_empty()).then_some(ShapeKind::Compound),
         }
     }
 
@@ -30,6 +24,7 @@ impl<'a> Host for Slide<'a> {
         self.parts(shape)
     }
 
+    // these five answers stand in both hosts: a default in `Host` would be one for hosts whose poses turn, too
     fn admits(&self, pose: Pose) -> bool {
         turnless::admits(pose)
     }
@@ -47,12 +42,12 @@ impl<'a> Host for Slide<'a> {
     }
 
     fn aabb(&self, shape: u32, pose: Pose) -> Aabb {
-        match half_sides(self.shapes, shape) {
-            Some(half) => Aabb::around(pose.translation, half),
-            None => match union_box(self.shapes, self.parts(shape), pose) {
-                Some(union) => union,
-                None => Aabb::around(pose.translation, Vector::zero()),
-            },
+        // a match: with `or_else` and `unwrap_or` the proof did not close
+        match self.cuboid_at(shape, pose) {
+            Some(cuboid) => cuboid,
+            None => self
+                .union_box(self.parts(shape), pose)
+                .unwrap_or(Aabb::around(pose.translation, Vector::zero())),
         }
     }
 
@@ -61,44 +56,28 @@ impl<'a> Host for Slide<'a> {
     }
 
     fn proxy_cast(&self, query: CastQuery, cap: f32) -> CastOutcome {
-        let met = match (
-            half_sides(self.shapes, query.fast),
-            half_sides(self.shapes, query.target),
-        ) {
-            (Some(fast), Some(target)) => meeting(
-                Aabb::around(query.sweep.start.translation, fast),
-                Aabb::around(query.pose.translation, target),
-                turnless::stroke(query.sweep),
-            ),
-            _ => None,
-        };
+        let met = self
+            .cuboid_at(query.fast, query.sweep.start)
+            .zip(self.cuboid_at(query.target, query.pose))
+            .and_then(|(fast, target)| meeting(fast, target, turnless::stroke(query.sweep)));
         answer(met, cap)
     }
 
     fn composite_cast(&self, query: CastQuery, pair: PairKind, cap: f32) -> Option<CastOutcome> {
-        let met = match half_sides(self.shapes, query.fast) {
-            Some(half) => first_meeting(
-                self.shapes,
-                self.parts(query.target),
-                Aabb::around(query.sweep.start.translation, half),
-                turnless::stroke(query.sweep),
-                query.pose,
-                pair,
-            ),
-            None => None,
-        };
+        let fast = self.cuboid_at(query.fast, query.sweep.start)?;
+        let met = self.first_meeting(self.parts(query.target), fast, query, pair);
         answer_if_met(met, cap)
     }
 
     fn turning_cast(&self, query: TurningQuery, pair: PairKind) -> TurningOutcome {
-        TurningOutcome::Unsupported
+        Err(Unsupported)
     }
 
     fn overlap(&self, relative: Pose, first: u32, second: u32) -> Overlap {
-        let meets = match half_sides(self.shapes, first) {
-            Some(half) => self.meets_shape(Aabb::around(Vector::zero(), half), second, relative),
+        let meets = match self.cuboid_at(first, Pose::at(Vector::zero())) {
+            Some(cuboid) => self.meets_shape(cuboid, second, relative),
             None => self.any_meets(self.parts(first), second, relative),
         };
-        Overlap::from_test(meets)
+        Ok(meets)
     }
 }

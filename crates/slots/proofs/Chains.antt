@@ -2,6 +2,7 @@
 use Rattle.std.proofs.Common.{◌≡◌, ℕ, zero, suc, ◌+◌, ◌<◌, ◌≤◌, true, false, cond, eqb, List, [], ◌∷◌, length, set, Some, None, Option, sym, refl, ap, ⊎_elim, arith}
 use Rattle.std.proofs.lemmas.Bool.Decides.{nat_tests}
 use Rattle.std.proofs.lemmas.Bool.{cases_eq, cases_lt}
+use Rattle.std.proofs.lemmas.List.Sums.{sum_by-cons}
 use Rattle.slots.specs.declared.Slot.{Slot}
 use Rattle.slots.specs.declared.Slot.TheVariants.{Retired}
 use Rattle.slots.specs.Store.{slot_at}
@@ -79,19 +80,25 @@ module _ {T : Type 0} where
   is_free_retire (x ∷ s) (suc i) zero = grind (arith, nat_tests)
   is_free_retire (x ∷ s) (suc i) (suc j) = let h = is_free_retire s i j in grind (arith, nat_tests)
 
+  free_count_first : (x : Slot T) (s : List (Slot T)) → free_count (x ∷ s) ≡ cond (is_free x) 1 0 + free_count s
+  free_count_first x s = sum_by-cons (λ y. cond (is_free y) 1 0) x s
+
   free_count_retire : (s : List (Slot T)) (i : ℕ) → is_free (slot_at s i) ≡ true → free_count (set s i Retired) + 1 ≡ free_count s
   free_count_retire [] i f = absurd (grind arith)
-  free_count_retire (x ∷ s) zero f = grind arith
-  free_count_retire (x ∷ s) (suc i) f = let h = free_count_retire s i f in omega arith
+  free_count_retire (x ∷ s) zero f = let e = free_count_first x s in let r = free_count_first Retired s in grind arith
+  free_count_retire (x ∷ s) (suc i) f =
+      let h = free_count_retire s i f in
+      let e = free_count_first x s in
+      let r = free_count_first x (set s i Retired) in omega arith
 
   none_free : (s : List (Slot T)) (i : ℕ) → free_count s ≡ 0 → is_free (slot_at s i) ≡ false
   none_free [] i h = refl
-  none_free (x ∷ s) zero h = grind arith
-  none_free (x ∷ s) (suc i) h = none_free s i (grind arith)
+  none_free (x ∷ s) zero h = let e = free_count_first x s in grind arith
+  none_free (x ∷ s) (suc i) h = let e = free_count_first x s in none_free s i (grind arith)
 
   free_count_none : (s : List (Slot T)) → ((i : ℕ) → is_free (slot_at s i) ≡ false) → free_count s ≡ 0
   free_count_none [] h = refl
-  free_count_none (x ∷ s) h = let e = h 0 in let r = free_count_none s (λ i. h (suc i)) in grind arith
+  free_count_none (x ∷ s) h = let e = h 0 in let c = free_count_first x s in let r = free_count_none s (λ i. h (suc i)) in grind arith
 
   -- a list with each free slot once is as long as there are free slots
   pub count_length : (s : List (Slot T)) (is : List ℕ) → ((i : ℕ) → times i is ≡ cond (is_free (slot_at s i)) 1 0)

@@ -1,6 +1,6 @@
 -- `orderly` decides the rules.
 use Rattle.std.proofs.Common.{◌≡◌, ℕ, zero, suc, ◌+◌, ◌^◌, ◌<◌, ◌≤◌, Bool, true, not, ◌&&◌, ltb, leb, List, [], ◌∷◌, length, Decides, sym, refl, ⊎_elim, arith}
-use Rattle.std.proofs.lemmas.Bool.Decides.{nat_tests}
+use Rattle.std.proofs.lemmas.Bool.Decides.{nat_tests, Decides-at}
 use Rattle.std.proofs.lemmas.Bool.{cases_lt, and_parts, and_from, leb-true, le-leb}
 use Rattle.std.proofs.lemmas.List.{get_or_past}
 use Rattle.slots.specs.declared.Slot.{Slot}
@@ -108,3 +108,7 @@ module _ {T : Type 0} where
             (laid_from st.header.used 0 st.slots (laid_out_from st v)))
             (walks_from st v),
       )
+
+  -- what answers as `orderly` does decides the rules too
+  pub decided : (st : State T) (r : Bool) → r ≡ orderly st → Decides r (Valid st)
+  decided st r e = Decides-at r (orderly st) e (orderly_decides st)

@@ -5,8 +5,8 @@ use Rattle.std.proofs.lemmas.Bool.{cases_eq, cond_both, eqb-true, both_ways}
 use Rattle.std.proofs.lemmas.List.{get_or-set_same, get_or-set_other}
 use Rattle.geometry.specs.declared.handle.Handle.{Handle}
 use Rattle.slots.specs.declared.Vacancy.{Vacancy}
-use Rattle.slots.specs.declared.Fault.{Fault}
-use Rattle.slots.specs.declared.Fault.TheVariants.{Full}
+use Rattle.slots.specs.declared.fault.Fault.{Fault}
+use Rattle.slots.specs.declared.fault.Fault.TheVariants.{Full}
 use Rattle.slots.specs.declared.Slot.{Slot}
 use Rattle.slots.specs.declared.Slot.TheVariants.{Unused, Free, Retired, Live}
 use Rattle.slots.specs.Store.{slot_at, record_in, found, State, state, header, handle, vacancy, reused, extended, vacant_by, filled, inserted, freed, released, removed, changed}

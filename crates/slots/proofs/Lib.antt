@@ -3,6 +3,6 @@ pub mod Chains
 pub mod Decided
 pub mod Rules
 pub mod Maps
-pub mod Refusals
 pub mod Lasting
 pub mod Stacks
+pub mod Whole

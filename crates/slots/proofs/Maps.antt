@@ -4,8 +4,8 @@ use Rattle.std.proofs.lemmas.Bool.Decides.{nat_tests}
 use Rattle.std.proofs.lemmas.Bool.{cases_eq, cond_both}
 use Rattle.geometry.specs.declared.handle.Handle.{Handle}
 use Rattle.slots.specs.declared.Vacancy.{Vacancy}
-use Rattle.slots.specs.declared.Fault.{Fault}
-use Rattle.slots.specs.declared.Fault.TheVariants.{Full}
+use Rattle.slots.specs.declared.fault.Fault.{Fault}
+use Rattle.slots.specs.declared.fault.Fault.TheVariants.{Full}
 use Rattle.slots.specs.declared.Slot.{Slot}
 use Rattle.slots.specs.declared.Slot.TheVariants.{Unused, Free, Retired, Live}
 use Rattle.geometry.specs.Handles.{same}

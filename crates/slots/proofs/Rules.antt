@@ -3,8 +3,8 @@ use Rattle.std.proofs.Common.{◌≡◌, ℕ, ◌+◌, ◌^◌, ◌<◌, min, Bo
 use Rattle.std.proofs.lemmas.Bool.Decides.{nat_tests}
 use Rattle.std.proofs.lemmas.Bool.{cases_eq, cases_lt, cond_both}
 use Rattle.std.proofs.lemmas.List.{get_or_past, get_or-replicate, length-replicate, length-set, get_or-set_same, get_or-set_other}
-use Rattle.slots.specs.declared.Fault.{Fault}
-use Rattle.slots.specs.declared.Fault.TheVariants.{Full, Broken}
+use Rattle.slots.specs.declared.fault.Fault.{Fault}
+use Rattle.slots.specs.declared.fault.Fault.TheVariants.{Full, Broken}
 use Rattle.slots.specs.declared.Vacancy.{Vacancy}
 use Rattle.geometry.specs.declared.handle.Handle.{Handle}
 use Rattle.slots.specs.declared.Slot.{Slot}

@@ -4,8 +4,8 @@ use Rattle.std.proofs.lemmas.Bool.Decides.{nat_tests}
 use Rattle.std.proofs.lemmas.Bool.{cond_both}
 use Rattle.std.proofs.lemmas.List.{get_or-set_same, get_or-set_other, append_assoc, map-append, reverse-append, length-map, length-reverse}
 use Rattle.geometry.specs.declared.handle.Handle.{Handle}
-use Rattle.slots.specs.declared.Fault.{Fault}
-use Rattle.slots.specs.declared.Fault.TheVariants.{Full}
+use Rattle.slots.specs.declared.fault.Fault.{Fault}
+use Rattle.slots.specs.declared.fault.Fault.TheVariants.{Full}
 use Rattle.slots.specs.declared.Vacancy.{Vacancy}
 use Rattle.slots.specs.declared.Slot.{Slot}
 use Rattle.slots.specs.declared.Slot.TheVariants.{Unused, Free, Retired, Live}

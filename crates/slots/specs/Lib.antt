@@ -1,3 +1,5 @@
 pub mod Store
+pub mod Records
 pub mod Rules
 pub mod Laws
+pub mod Faults

@@ -1,5 +1,6 @@
 -- The rules that header and slots obey: as a test that can be run, and as the statement that it decides.
-use Rattle.std.specs.Prelude.{◌≡◌, ℕ, zero, suc, ◌+◌, ◌^◌, ◌<◌, ◌≤◌, Bool, true, false, cond, not, ◌&&◌, List, [], ◌∷◌, length, Some, None, Option, ◌==◌, nat_le, nat_lt}
+use Rattle.std.specs.Prelude.{◌≡◌, ℕ, zero, suc, ◌+◌, ◌^◌, ◌<◌, ◌≤◌, Bool, true, false, cond, not, ◌&&◌, List, [], ◌∷◌, length, Some, None, Option, ◌==◌, nat_le, nat_lt, count_by}
+use Rattle.std.specs.List.{list_all, enumerate_from}
 use Rattle.slots.specs.declared.Slot.{Slot}
 use Rattle.slots.specs.declared.Slot.TheVariants.{Unused, Free, Retired, Live}
 use Rattle.slots.specs.Store.{slot_at, State}
@@ -23,6 +24,13 @@ link (Free g n) = n
 link Retired = None
 link (Live g x) = None
 
+-- the same, where there is a free slot
+abbrev pub free_link : {T : Type 0} → Slot T → Option (Option ℕ)
+free_link Unused = None
+free_link (Free g n) = Some n
+free_link Retired = None
+free_link (Live g x) = None
+
 -- a slot that was freed is past its first generation
 abbrev pub aged : {T : Type 0} → Slot T → Bool
 aged Unused = true
@@ -39,12 +47,10 @@ fitting (Live g x) u = u
 
 -- whether the slots from number i on may stand where they do
 abbrev pub laid_out : {T : Type 0} → ℕ → ℕ → List (Slot T) → Bool
-laid_out u i [] = true
-laid_out u i (x ∷ s) = cond (fitting x (nat_lt i u)) (laid_out u (i + 1) s) false
+laid_out u i s = list_all (λ p. fitting p.1 (nat_lt p.0 u)) (enumerate_from i s)
 
 abbrev pub free_count : {T : Type 0} → List (Slot T) → ℕ
-free_count [] = 0
-free_count (x ∷ s) = cond (is_free x) 1 0 + free_count s
+free_count s = count_by is_free s
 
 -- whether the links lead through n free slots and end there
 abbrev pub walks : {T : Type 0} → List (Slot T) → Option ℕ → ℕ → Bool

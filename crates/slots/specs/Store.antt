@@ -3,8 +3,8 @@ use Rattle.std.specs.Prelude.{ℕ, ◌+◌, min, cond, List, length, replicate, 
 use Rattle.geometry.specs.declared.handle.Handle.{Handle}
 use Rattle.slots.specs.declared.Header.{Header}
 use Rattle.slots.specs.declared.Vacancy.{Vacancy}
-use Rattle.slots.specs.declared.Fault.{Fault}
-use Rattle.slots.specs.declared.Fault.TheVariants.{Full, NotLive, Broken}
+use Rattle.slots.specs.declared.fault.Fault.{Fault}
+use Rattle.slots.specs.declared.fault.Fault.TheVariants.{Full, NotLive, Broken}
 use Rattle.slots.specs.declared.Slot.{Slot}
 use Rattle.slots.specs.declared.Slot.TheVariants.{Unused, Free, Retired, Live}
 

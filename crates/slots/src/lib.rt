@@ -10,29 +10,26 @@
 //!
 //! Lent memory may hold anything. So no call requires anything of it: each is defined on any content, `valid` tells whether the rules
 //! are obeyed, and where they are, no call answers `Fault::Broken`.
+//!
+//! Header and slots are two parameters, and no struct of both: what a step does needs the slots alone, and a struct of two borrows
+//! would be made anew for each of the other calls.
 #![tactic(auto)]
+
+mod fault;
+mod iter;
 
 ghost use Rattle.std.specs.Prelude.{◌≡◌, ◌<◌, true, length, is_some, IfOk, Decides};
 ghost use Rattle.std.specs.Option.{option_map};
-ghost use Rattle.slots.specs.Store.{found, state, cleared, emptied, extended, vacant_in, next_handle, written, inserted, freed, removed, replaced};
-ghost use Rattle.slots.specs.Rules.{fitting, laid_out, free_count, walks, orderly, Valid};
+ghost use Rattle.slots.specs.Store.{slot_at, found, state, emptied, extended, vacant_in, next_handle, written, inserted, freed, removed, replaced};
+ghost use Rattle.slots.specs.Rules.{fitting, laid_out, free_count, free_link, walks, orderly, Valid};
 ghost use Rattle.slots.specs.Laws.{RulesKept, IsMap, DeadForGood, RefusalsSpare, LastInFirstOut, RetiredForGood, NextIsAnswered};
 
+pub use fault::Fault;
 use geometry::Handle;
-
-/// Why a call refuses. A call that refuses changes nothing.
-#[derive(Clone, Copy, PartialEq, Eq, Debug)]
-pub enum Fault {
-    /// No slot is free or unused.
-    Full,
-    /// The handle names no record.
-    NotLive,
-    /// The lent memory breaks the rules of the store.
-    Broken,
-}
+pub use iter::{LiveRecords, live_records};
 
 /// A place for a record. A free slot has the generation that its next record gets, and links to the slot that was freed before it.
-#[derive(Clone, Copy)]
+#[derive(Clone, Copy, PartialEq, Eq, Debug)]
 pub enum Slot<T> {
     Unused,
     Free { generation: u32, next: Option<u32> },
@@ -41,7 +38,7 @@ pub enum Slot<T> {
 }
 
 /// The slot that was freed last, and how many slots were ever used: those are the first ones.
-#[derive(Clone, Copy)]
+#[derive(Clone, Copy, PartialEq, Eq, Debug)]
 pub struct Header {
     pub free: Option<u32>,
     pub used: u32,
@@ -58,19 +55,10 @@ struct Vacancy {
 pub fn open<T: Copy>(slots: &mut [Slot<T>]) -> Header
     ensures { state result slots.new ≡ emptied slots.old }
 {
-    clear(slots);
+    slots.fill(Slot::Unused);
     Header {
         free: None,
         used: 0,
-    }
-}
-
-/// Makes each slot an unused one.
-fn clear<T: Copy>(slots: &mut [Slot<T>])
-    ensures { slots.new ≡ cleared slots.old }
-{
-    for slot in slots.iter_mut() {
-        *slot = Slot::Unused;
     }
 }
 
@@ -79,11 +67,7 @@ pub fn get<T>(slots: &[Slot<T>], handle: Handle) -> Option<&T>
     ensures value { option_map (λ x. x.now) result ≡ found slots.now handle }
     ensures within { is_some result ≡ true → handle.slot < length slots.now }
 {
-    let i = handle.slot as usize;
-    if i >= slots.len() {
-        return None;
-    }
-    match &slots[i] {
+    match slots.get(handle.slot as usize)? {
         Slot::Live { generation, value } if *generation == handle.generation => Some(value),
         _ => None,
     }
@@ -118,23 +102,19 @@ fn vacant<T>(header: &Header, slots: &[Slot<T>]) -> Result<Vacancy, Fault>
     let Some(slot) = header.free else {
         return unused(*header, slots.len());
     };
-    let i = slot as usize;
-    if i >= slots.len() {
+    let Some(Slot::Free { generation, next }) = slots.get(slot as usize) else {
         return Err(Fault::Broken);
-    }
-    match &slots[i] {
-        Slot::Free { generation, next } => Ok(Vacancy {
-            handle: Handle {
-                slot,
-                generation: *generation,
-            },
-            after: Header {
-                free: *next,
-                used: header.used,
-            },
-        }),
-        _ => Err(Fault::Broken),
-    }
+    };
+    Ok(Vacancy {
+        handle: Handle {
+            slot,
+            generation: *generation,
+        },
+        after: Header {
+            free: *next,
+            used: header.used,
+        },
+    })
 }
 
 /// The first of `count` slots that was never used. The last number is left out, since the header could not count it.
@@ -177,10 +157,7 @@ pub fn remove<T: Copy>(
 ) -> Result<T, Fault>
     ensures { (state header.new slots.new, result) ≡ removed (state header.old slots.old) handle }
 {
-    let Some(value) = get(slots, handle) else {
-        return Err(Fault::NotLive);
-    };
-    let value = *value;
+    let value = *get(slots, handle).ok_or(Fault::NotLive)?;
     free(header, slots, handle);
     Ok(value)
 }
@@ -218,13 +195,6 @@ pub fn valid<T>(header: &Header, slots: &[Slot<T>]) -> bool
     ensures value { result ≡ orderly (state header.now slots.now) }
     ensures decides { Decides result (Valid (state header.now slots.now)) }
 {
-    obeys(header, slots)
-}
-
-/// The tests of `valid`.
-fn obeys<T>(header: &Header, slots: &[Slot<T>]) -> bool
-    ensures { result ≡ orderly (state header.now slots.now) }
-{
     let used = header.used as usize;
     slots.len() <= u32::MAX as usize
         && used <= slots.len()
@@ -236,15 +206,14 @@ fn obeys<T>(header: &Header, slots: &[Slot<T>]) -> bool
 fn laid_out<T>(slots: &[Slot<T>], used: usize) -> bool
     ensures { result ≡ laid_out used 0 slots.now }
 {
-    for (i, slot) in slots.iter().enumerate() {
-        if !fits(slot, i < used) {
-            return false;
-        }
-    }
-    true
+    slots
+        .iter()
+        .enumerate()
+        .all(|(i, slot)| fits(slot, i < used))
 }
 
 /// Whether a slot may stand where slots were used, or where none was.
+// a bool that picks no step: a fact of the slot's place
 fn fits<T>(slot: &Slot<T>, used: bool) -> bool
     ensures { result ≡ fitting slot.now used }
 {
@@ -259,13 +228,10 @@ fn fits<T>(slot: &Slot<T>, used: bool) -> bool
 fn count_free<T>(slots: &[Slot<T>]) -> usize
     ensures { result ≡ free_count slots.now }
 {
-    let mut count = 0;
-    for slot in slots {
-        if let Slot::Free { .. } = slot {
-            count += 1;
-        }
-    }
-    count
+    slots
+        .iter()
+        .filter(|slot| matches!(slot, Slot::Free { .. }))
+        .count()
 }
 
 /// Whether the links lead from `head` through `count` free slots and end there.
@@ -278,16 +244,22 @@ fn linked<T>(slots: &[Slot<T>], head: Option<u32>, count: usize) -> bool
         let Some(slot) = at else {
             return false;
         };
-        let i = slot as usize;
-        if i >= slots.len() {
+        let Some(next) = link_of(slots, slot) else {
             return false;
-        }
-        at = match &slots[i] {
-            Slot::Free { next, .. } => *next,
-            _ => return false,
         };
+        at = next;
     }
     at.is_none()
+}
+
+/// Where the free slot at a number leads. There is no answer where none is free there.
+fn link_of<T>(slots: &[Slot<T>], slot: u32) -> Option<Option<u32>>
+    ensures { result ≡ free_link (slot_at slots.now slot) }
+{
+    match slots.get(slot as usize)? {
+        Slot::Free { next, .. } => Some(*next),
+        _ => None,
+    }
 }
 
 /// The rules hold in an opened store, and stay so under every operation; where they hold, nothing is found broken, and an insert is

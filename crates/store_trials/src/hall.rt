@@ -3,7 +3,7 @@ use geometry::{
     ColliderHandle, Handle, InteractionGroups, Pose, RigidBodyHandle, RigidBodyType, Vector,
 };
 use records::{Collider, ColliderList, ColliderParent, RigidBody};
-use rules::{admits_all, stores_hold};
+use rules::Bench;
 use slide::{Shape, Slide};
 use slots::{Header, Slot};
 
@@ -87,7 +87,12 @@ pub(crate) fn holds(body: RigidBody, part: Collider, wall: Collider) -> bool {
         free: None,
         used: 2,
     };
-    stores_hold(&host, &one, &bodies, &two, &colliders)
+    let bench = Bench {
+        host: &host,
+        bodies: &bodies,
+        colliders: &colliders,
+    };
+    bench.stores_hold(&one, &two)
 }
 
 /// Whether the host admits all poses of a hall of these three records.
@@ -97,5 +102,10 @@ pub(crate) fn is_admitted(body: RigidBody, part: Collider, wall: Collider) -> bo
         shapes: &shapes,
         children: &[],
     };
-    admits_all(&host, &[live(body)], &[live(part), live(wall)])
+    let bench = Bench {
+        host: &host,
+        bodies: &[live(body)],
+        colliders: &[live(part), live(wall)],
+    };
+    bench.admits_all()
 }

@@ -10,12 +10,13 @@ use Rattle.numbers.proofs.Order.{not_lt}
 use Rattle.geometry.specs.declared.vector.Vector.{Vector}
 use Rattle.geometry.specs.declared.aabb.Aabb.{Aabb}
 use Rattle.numbers.specs.Constants.{zero_f, one_f}
+use Rattle.numbers.specs.Picks.{greater_of}
 use Rattle.outcomes.specs.declared.pair_kind.PairKind.{PairKind}
 use Rattle.outcomes.specs.declared.pair_kind.PairKind.TheVariants.{Solid, Pseudo}
 use Rattle.strokes.specs.declared.Crossing.{Crossing}
 use Rattle.outcomes.specs.Impacts.{clean}
 use Rattle.outcomes.proofs.Caps.{clean_above}
-use Rattle.strokes.specs.Strokes.{cross, crossing_of, later_of, entry, too_late, joined, axis, meeting_of, counted_for, sooner_of}
+use Rattle.strokes.specs.Strokes.{cross, crossing_of, entry, too_late, joined, axis, meeting_of, counted_for, sooner_of}
 use Rattle.strokes.specs.Laws.{Timely, Met}
 
 -- ---- the times of one axis are values of single precision
@@ -49,7 +50,7 @@ later_by t i s f true e =
     (clean_above i f up, le_of_lt zero_f i up)
 later_by t i s f false e = s
 
-later : (t i : Float) → Started t → T (fits binary32 i) → Started (later_of t i)
+later : (t i : Float) → Started t → T (fits binary32 i) → Started (greater_of t i)
 later t i s f = later_by t i s f (lt t i) refl
 
 zero_started : Started zero_f
@@ -57,7 +58,7 @@ unfolding fits of_bits is_nan is_sign_negative le
 zero_started = (tt, tt)
 
 entry_started : (x y z : Crossing) → T (fits binary32 x.enter) → T (fits binary32 y.enter) → T (fits binary32 z.enter) → Started (entry x y z)
-entry_started x y z p q r = later (later_of (later_of zero_f x.enter) y.enter) z.enter (later (later_of zero_f x.enter) y.enter (later zero_f x.enter zero_started p) q) r
+entry_started x y z p q r = later (greater_of (greater_of zero_f x.enter) y.enter) z.enter (later (greater_of zero_f x.enter) y.enter (later zero_f x.enter zero_started p) q) r
 
 -- ---- nor passes it 1
 
@@ -104,7 +105,7 @@ counted_met None p m = tt
 counted_met (Some t) Solid m = counted_by t m (lt zero_f t)
 counted_met (Some t) Pseudo m = m
 
-sooner_by : (s t : Float) → Timely s → Timely t → (b : Bool) → Met (cond b (Some t) (Some s))
+sooner_by : (s t : Float) → Timely s → Timely t → (b : Bool) → Timely (cond b t s)
 sooner_by s t m n true = n
 sooner_by s t m n false = m
 

@@ -5,6 +5,7 @@ use Rattle.std.specs.Float.Ieee.{sub, div, lt, le}
 use Rattle.geometry.specs.declared.vector.Vector.{Vector}
 use Rattle.geometry.specs.declared.aabb.Aabb.{Aabb}
 use Rattle.numbers.specs.Constants.{zero_f, one_f}
+use Rattle.numbers.specs.Picks.{lesser_of, greater_of}
 use Rattle.outcomes.specs.declared.cast_outcome.CastOutcome.{CastOutcome}
 use Rattle.outcomes.specs.declared.cast_outcome.CastOutcome.TheVariants.{Hit, Overlapped, Separated}
 use Rattle.outcomes.specs.declared.pair_kind.PairKind.{PairKind}
@@ -20,11 +21,8 @@ crossing_of a b d =
     (cond (lt d zero_f) (Some (cross (div binary32 b d) (div binary32 a d)))
     (cond (le a zero_f && le zero_f b) (Some (cross zero_f one_f)) None))
 
-abbrev pub later_of : Float → Float → Float
-later_of t i = cond (lt t i) i t
-
 abbrev pub entry : Crossing → Crossing → Crossing → Float
-entry x y z = later_of (later_of (later_of zero_f x.enter) y.enter) z.enter
+entry x y z = greater_of (greater_of (greater_of zero_f x.enter) y.enter) z.enter
 
 abbrev pub too_late : Float → Crossing → Crossing → Crossing → Bool
 too_late t x y z = lt x.leave t || (lt y.leave t || (lt z.leave t || lt one_f t))
@@ -69,4 +67,4 @@ counted_for (Some t) Pseudo = Some t
 abbrev pub sooner_of : Option Float → Option Float → Option Float
 sooner_of None o = o
 sooner_of (Some a) None = Some a
-sooner_of (Some a) (Some b) = cond (lt b a) (Some b) (Some a)
+sooner_of (Some a) (Some b) = Some (lesser_of a b)

@@ -2,10 +2,11 @@
 #![tactic(auto)]
 
 ghost use Rattle.std.specs.Prelude.{◌≡◌};
-ghost use Rattle.strokes.specs.Strokes.{crossing_of, later_of, shared_time, meeting_of, touched, answered, answered_if_met, counted_for, sooner_of};
+ghost use Rattle.strokes.specs.Strokes.{crossing_of, shared_time, meeting_of, touched, answered, answered_if_met, counted_for, sooner_of};
 ghost use Rattle.strokes.specs.Laws.{CapKept};
 
 use geometry::{Aabb, Vector};
+use numbers::{greater, lesser};
 use outcomes::{CastOutcome, PairKind};
 
 /// The fractions of a stroke at which an axis is entered and left.
@@ -39,23 +40,13 @@ pub fn axis_crossing(ahead: f32, behind: f32, stroke: f32) -> Option<Crossing>
     }
 }
 
-/// The later of two times; 0 stays the first.
-fn later(time: f32, enter: f32) -> f32
-    ensures { result ≡ later_of time enter }
-{
-    if time < enter { enter } else { time }
-}
-
 /// When all three axes have been entered, unless one has been left by then or the stroke has ended.
 fn shared_time(x: Crossing, y: Crossing, z: Crossing) -> Option<f32>
     ensures { result ≡ shared_time x y z }
 {
-    let time = later(later(later(0.0, x.enter), y.enter), z.enter);
-    if x.leave < time || y.leave < time || z.leave < time || 1.0 < time {
-        None
-    } else {
-        Some(time)
-    }
+    let time = greater(greater(greater(0.0, x.enter), y.enter), z.enter);
+    let is_late = x.leave < time || y.leave < time || z.leave < time || 1.0 < time;
+    (!is_late).then_some(time)
 }
 
 /// When the box `fast`, moved along the stroke, meets the box `target`.
@@ -94,36 +85,21 @@ fn touch(time: f32) -> CastOutcome
 pub fn answer(met: Option<f32>, cap: f32) -> CastOutcome
     ensures { result ≡ answered met cap }
 {
-    match met {
-        Some(time) => {
-            if cap < time {
-                CastOutcome::Separated(cap)
-            } else {
-                touch(time)
-            }
-        }
-        None => CastOutcome::Separated(cap),
-    }
+    answer_if_met(met, cap).unwrap_or(CastOutcome::Separated(cap))
 }
 
 /// What a composite cast answers of its first meeting.
 pub fn answer_if_met(met: Option<f32>, cap: f32) -> Option<CastOutcome>
     ensures { result ≡ answered_if_met met cap }
 {
-    match met {
-        Some(time) => { if cap < time { None } else { Some(touch(time)) } }
-        None => None,
-    }
+    met.filter(|time| !(cap < *time)).map(touch)
 }
 
 /// A meeting that counts: for a solid pair not one at the start.
 pub fn counted(met: Option<f32>, pair: PairKind) -> Option<f32>
     ensures { result ≡ counted_for met pair }
 {
-    match (met, pair) {
-        (Some(time), PairKind::Solid) => { if 0.0 < time { Some(time) } else { None } }
-        (met, _) => met,
-    }
+    met.filter(|time| pair == PairKind::Pseudo || 0.0 < *time)
 }
 
 /// The sooner of two meetings.
@@ -131,9 +107,8 @@ pub fn sooner(best: Option<f32>, next: Option<f32>) -> Option<f32>
     ensures { result ≡ sooner_of best next }
 {
     match (best, next) {
-        (Some(a), Some(b)) => { if b < a { Some(b) } else { Some(a) } }
-        (Some(a), None) => Some(a),
-        (None, next) => next,
+        (Some(best), Some(next)) => Some(lesser(best, next)),
+        _ => best.or(next),
     }
 }
 

@@ -1,7 +1,7 @@
 -- The pairs that a sweep casts are exactly the admitted ones. Assumes nothing.
-use Rattle.std.proofs.Common.{◌≡◌, ℕ, Bool, true, false, cond, not, ◌&&◌, T, List, [], ◌∷◌, ◌++◌, Some, None, Option, sym, refl, ap, subst}
+use Rattle.std.proofs.Common.{◌≡◌, ℕ, Bool, true, false, cond, not, ◌&&◌, T, List, [], ◌∷◌, Some, None, Option, sym, refl, subst}
 use lib.Ieee.{Float}
-use Rattle.std.specs.List.{flat_map, ContainsAt as Has}
+use Rattle.std.specs.List.{ContainsAt as Has}
 use Rattle.std.proofs.lemmas.Bool.{and_parts, and_from, not-true, not_from_false}
 use Rattle.geometry.specs.declared.handle.RigidBodyHandle.{RigidBodyHandle}
 use Rattle.geometry.specs.declared.handle.ColliderHandle.{ColliderHandle}
@@ -22,20 +22,9 @@ use Rattle.sweeps.specs.Sweeps.{report_of, way_of, shape_of, swept_box}
 use Rattle.sweep_laws.specs.Situations.{situation}
 use Rattle.sweep_laws.specs.Pairs.{Pair, Admitted}
 use Rattle.sweep_laws.specs.Served.{Found}
-use Rattle.sweep_laws.specs.SweepLaws.{pair_of, pair_in, pairs_of, pairs_if, pairs_by, pairs_at, pairs_from, admitted_pairs, PairsAreExact}
+use Rattle.sweep_laws.specs.SweepLaws.{pair_of, pair_in, pairs_of, pairs_if, pairs_by, pairs_at, admitted_pairs, PairsAreExact}
 use Rattle.sweep_laws.proofs.PairFacts.{PairFacts}
 use Rattle.sweep_laws.proofs.Members.{in_has, has_in, has_one, has_joined, joined_has}
-
--- ---- the pairs as lists put together
-
-pairs_of_lem : (e : Env) (f : Fast) (ks : List ColliderHandle) → pairs_of e f ks ≡ flat_map (λ k. pair_in e f k (found e.colliders k.0)) ks
-pairs_of_lem e f [] = refl
-pairs_of_lem e f (k ∷ ks) = ap (λ (l : List Pair). pair_in e f k (found e.colliders k.0) ++ l) (pairs_of_lem e f ks)
-
-pairs_from_lem : (e : Env) (h : RigidBodyHandle) (b : RigidBody) (ks : List ColliderHandle)
-    → pairs_from e h b ks ≡ flat_map (λ k. pairs_at e h b k (found e.colliders k.0)) ks
-pairs_from_lem e h b [] = refl
-pairs_from_lem e h b (k ∷ ks) = ap (λ (l : List Pair). pairs_at e h b k (found e.colliders k.0) ++ l) (pairs_from_lem e h b ks)
 
 -- ---- how a pair stands among them
 
@@ -73,16 +62,15 @@ module _ (e : Env) where
   -- what is among the pairs of a report is such a pair, and such a pair is among them
   cast_of : (f : Fast) (ks : List ColliderHandle) (x : Pair) → Has (pairs_of e f ks) x → Cast e f ks x
   cast_of f ks x h =
-      let r = has_joined (λ k. pair_in e f k (found e.colliders k.0)) x ks (subst (λ (l : List Pair). Has l x) (pairs_of_lem e f ks) h) in
+      let r = has_joined (λ k. pair_in e f k (found e.colliders k.0)) x ks h in
       cast_in f ks r.0 x (found e.colliders r.0.0) r.1 refl r.2
 
   of_cast : (f : Fast) (ks : List ColliderHandle) (x : Pair) → Cast e f ks x → Has (pairs_of e f ks) x
   of_cast f ks x c =
-      subst (λ (l : List Pair). Has l x) (sym (pairs_of_lem e f ks))
-      (joined_has (λ k. pair_in e f k (found e.colliders k.0)) x x.other ks c.reported
+      joined_has (λ k. pair_in e f k (found e.colliders k.0)) x x.other ks c.reported
       (subst (λ (o : Option Collider). Has (pair_in e f x.other o) x) (sym c.live)
       (subst (λ (a : Bool). Has (cond a (pair_of f x.other x.target ∷ []) []) x) (sym c.admitted)
-      (subst (λ (y : Pair). Has (pair_of f x.other x.target ∷ []) y) c.whose (has_first (pair_of f x.other x.target) [])))))
+      (subst (λ (y : Pair). Has (pair_of f x.other x.target ∷ []) y) c.whose (has_first (pair_of f x.other x.target) []))))
 
   module _ (h : RigidBodyHandle) (b : RigidBody) where
     -- what is among the pairs of a collider is cast of it
@@ -205,8 +193,7 @@ module _ (e : Env) (room : ℕ) (h : RigidBodyHandle) (b : RigidBody) (facts : P
   -- each pair that is cast is admitted
   only : (x : Pair) → Has (admitted_pairs e h b) x → Admitted (situation e) h b x
   only x m =
-      let r = has_joined (λ k. pairs_at e h b k (found e.colliders k.0)) x (listed b.colliders)
-      (subst (λ (l : List Pair). Has l x) (pairs_from_lem e h b (listed b.colliders)) m) in
+      let r = has_joined (λ k. pairs_at e h b k (found e.colliders k.0)) x (listed b.colliders) m in
       let s = part_of e h b r.0 x (found e.colliders r.0.0) refl r.2 in
       subst (Admitted (situation e) h b) s.2.whose (cast_admitted r.0 s.0 x r.1 s.1 s.2)
 
@@ -234,9 +221,8 @@ module _ (e : Env) (room : ℕ) (h : RigidBodyHandle) (b : RigidBody) (facts : P
             a.not_its_own a.tier a.groups a.not_dropped;
         whose = refl;
       } in
-      subst (λ (l : List Pair). Has l x) (sym (pairs_from_lem e h b (listed b.colliders)))
-      (joined_has (λ k. pairs_at e h b k (found e.colliders k.0)) x x.own (listed b.colliders) a.listed_there
-      (of_part e h b x.own x.part x p m))
+      joined_has (λ k. pairs_at e h b k (found e.colliders k.0)) x x.own (listed b.colliders) a.listed_there
+      (of_part e h b x.own x.part x p m)
 
 -- the pairs that a sweep casts are exactly the admitted ones
 pub exactly : (e : Env) (room : ℕ) (h : RigidBodyHandle) (b : RigidBody) → PairFacts e → Found e b room → PairsAreExact e h b

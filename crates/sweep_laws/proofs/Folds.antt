@@ -1,21 +1,22 @@
 -- The sweep of a body goes through its admitted pairs, one after the other. Assumes nothing.
-use Rattle.std.proofs.Common.{◌≡◌, ℕ, Bool, true, false, cond, not, ◌&&◌, T, ltb, List, [], ◌∷◌, ◌++◌, length, Some, None, Option, unwrap_or, sym, refl, ap, ◌∙◌, subst}
+use Rattle.std.proofs.Common.{◌≡◌, ℕ, Bool, true, false, cond, not, ◌&&◌, T, List, [], ◌∷◌, Some, None, Option, unwrap_or, sym, refl, ap, ◌∙◌, subst}
 use lib.Ieee.{Float, lt}
-use Rattle.std.specs.List.{AllByRecursion}
+use Rattle.std.specs.List.{AllByRecursion, fold}
 use Rattle.std.proofs.ByRecursion.{All-append}
 use Rattle.std.proofs.lemmas.List.{take_all}
+use Rattle.std.proofs.lemmas.List.Sums.{fold-append}
 use Rattle.std.proofs.lemmas.Bool.{cond_both, or_left}
 use Rattle.numbers.specs.Constants.{one_f}
 use Rattle.geometry.specs.declared.handle.RigidBodyHandle.{RigidBodyHandle}
 use Rattle.geometry.specs.declared.handle.ColliderHandle.{ColliderHandle}
 use Rattle.outcomes.specs.declared.pair_kind.PairKind.TheVariants.{Solid, Pseudo}
+use Rattle.spaces.specs.Spaces.{Written, with}
 use Rattle.slots.specs.Store.{found}
 use Rattle.records.specs.declared.rigid_body.RigidBody.{RigidBody}
 use Rattle.records.specs.declared.collider.Collider.{Collider}
 use Rattle.records.specs.declared.collider.ColliderParent.{ColliderParent}
 use Rattle.records.specs.Lists.{listed}
 use Rattle.search.specs.Searches.{accepted}
-use Rattle.search.proofs.Impacts.{none_some}
 use Rattle.pairs.specs.Pairs.{Fast, fast, parent_body, admits, is_pseudo, pair_kind}
 use Rattle.pair_casts.specs.declared.fast_shape.FastShape.{FastShape}
 use Rattle.pair_casts.specs.PairCasts.{pair_taken}
@@ -23,7 +24,7 @@ use Rattle.sweeps.specs.declared.hall.PseudoHit.{PseudoHit}
 use Rattle.sweeps.specs.declared.hall.PseudoHitMode.{PseudoHitMode}
 use Rattle.sweeps.specs.declared.hall.PseudoHitMode.TheVariants.{Record, Ignore}
 use Rattle.sweeps.specs.Env.{Env}
-use Rattle.sweeps.specs.Sweeps.{Swept, reached, noted, judged, target_of, met, passed_over, candidate_in, candidates_swept, report_of, shape_swept, way_of, shape_of, collider_swept, takes_part, part_by, part_in, body_swept}
+use Rattle.sweeps.specs.Sweeps.{Swept, judged, target_of, met, passed_over, candidate_in, candidates_swept, report_of, shape_swept, way_of, shape_of, collider_swept, takes_part, part_by, part_in, body_swept}
 use Rattle.sweep_laws.specs.Fractions.{is_fraction, one_is_a_fraction}
 use Rattle.sweep_laws.specs.Situations.{situation}
 use Rattle.sweep_laws.specs.Pairs.{Pair, pseudo, impact_of}
@@ -40,17 +41,16 @@ hit_at n x t = record { result = n; first = x.own; second = x.other; fraction = 
 -- what is accepted of a solid pair becomes the fraction, what is accepted of a pseudo pair is noted or left alone
 abbrev pub taken : PseudoHitMode → Pair → Bool → Option Float → Swept → Swept
 taken m x p None s = s
-taken m x false (Some t) s = (s.0, reached t s.1.hits)
-taken (Record n) x true (Some t) s = noted s (hit_at n x t)
+taken m x false (Some t) s = (s.0, t)
+taken (Record n) x true (Some t) s = (with s.0 (hit_at n x t), s.1)
 taken Ignore x true (Some t) s = s
 
 -- one pair under the fraction that is reached, given the impacts of pairs
 abbrev pub pair_met : (Pair → Option Float) → PseudoHitMode → Swept → Pair → Swept
-pair_met impact m s x = taken m x (pseudo x) (accepted (test_for (pseudo x)) (impact x) s.1.fraction) s
+pair_met impact m s x = taken m x (pseudo x) (accepted (test_for (pseudo x)) (impact x) s.1) s
 
 abbrev pub pairs_met : (Pair → Option Float) → PseudoHitMode → Swept → List Pair → Swept
-pairs_met impact m s [] = s
-pairs_met impact m s (x ∷ xs) = pairs_met impact m (pair_met impact m s x) xs
+pairs_met impact m s xs = fold (pair_met impact m) s xs
 
 -- the impact of a pair that is solid
 abbrev pub solid_impact : (Pair → Option Float) → Pair → Option Float
@@ -60,40 +60,32 @@ solid_impact impact x = cond (pseudo x) None (impact x)
 pub solid_given : (impact : Pair → Option Float) (x : Pair) (t : Float) → solid_impact impact x ≡ Some t → (pseudo x ≡ false) × (impact x ≡ Some t)
 solid_given impact x t =
     cond_both (pseudo x) None (impact x) (λ (o : Option Float). o ≡ Some t → (pseudo x ≡ false) × (impact x ≡ Some t))
-    (λ p e. absurd (none_some t e)) (λ p e. (p, e))
+    (λ p e. cc) (λ p e. (p, e))
 
 module _ (impact : Pair → Option Float) (m : PseudoHitMode) where
-  -- two lists, one after the other
-  pub met_append : (s : Swept) (xs ys : List Pair) → pairs_met impact m s (xs ++ ys) ≡ pairs_met impact m (pairs_met impact m s xs) ys
-  met_append s [] ys = refl
-  met_append s (x ∷ xs) ys = met_append (pair_met impact m s x) xs ys
-
   -- the fraction after one pair: only a solid impact below it changes it
-  pub met_fraction : (s : Swept) (x : Pair) → (pair_met impact m s x).1.fraction ≡ unwrap_or (accepted lt (solid_impact impact x) s.1.fraction) s.1.fraction
+  pub met_fraction : (s : Swept) (x : Pair) → (pair_met impact m s x).1 ≡ unwrap_or (accepted lt (solid_impact impact x) s.1) s.1
   met_fraction s x = by m (pseudo x) (impact x)
     where
-      noting : (h : PseudoHit) → (noted s h).1.fraction ≡ s.1.fraction
-      noting h = cond_both (ltb s.1.hits (length s.0)) _ s (λ (z : Swept). z.1.fraction ≡ s.1.fraction) (λ e. refl) (λ e. refl)
-
-      solid : (m : PseudoHitMode) (o : Option Float) → (taken m x false o s).1.fraction ≡ unwrap_or o s.1.fraction
+      solid : (m : PseudoHitMode) (o : Option Float) → (taken m x false o s).1 ≡ unwrap_or o s.1
       solid m None = refl
       solid m (Some t) = refl
 
-      seen : (m : PseudoHitMode) (o : Option Float) → (taken m x true o s).1.fraction ≡ s.1.fraction
+      seen : (m : PseudoHitMode) (o : Option Float) → (taken m x true o s).1 ≡ s.1
       seen m None = refl
-      seen (Record n) (Some t) = noting (hit_at n x t)
+      seen (Record n) (Some t) = refl
       seen Ignore (Some t) = refl
 
       by : (m : PseudoHitMode) (p : Bool) (o : Option Float)
-          → (taken m x p (accepted (test_for p) o s.1.fraction) s).1.fraction ≡ unwrap_or (accepted lt (cond p None o) s.1.fraction) s.1.fraction
-      by m true o = seen m (accepted (test_for true) o s.1.fraction)
-      by m false o = solid m (accepted lt o s.1.fraction)
+          → (taken m x p (accepted (test_for p) o s.1) s).1 ≡ unwrap_or (accepted lt (cond p None o) s.1) s.1
+      by m true o = seen m (accepted (test_for true) o s.1)
+      by m false o = solid m (accepted lt o s.1)
 
 -- a pseudo pair changes nothing where such pairs are ignored
 pub ignored : (impact : Pair → Option Float) (s : Swept) (xs : List Pair) → AllByRecursion (λ x. pseudo x ≡ true) xs → pairs_met impact Ignore s xs ≡ s
 ignored impact s [] a = refl
 ignored impact s (x ∷ xs) a =
-    ap (λ (z : Swept). pairs_met impact Ignore z xs) (by (pseudo x) a.0 (accepted (test_for (pseudo x)) (impact x) s.1.fraction)) ∙ ignored impact s xs a.1
+    ap (λ (z : Swept). pairs_met impact Ignore z xs) (by (pseudo x) a.0 (accepted (test_for (pseudo x)) (impact x) s.1)) ∙ ignored impact s xs a.1
   where
     still : (o : Option Float) → taken Ignore x true o s ≡ s
     still None = refl
@@ -106,15 +98,15 @@ ignored impact s (x ∷ xs) a =
 
 module _ (impact : Pair → Option Float) (marks : (x : Pair) (t : Float) → impact x ≡ Some t → T (is_fraction t)) (m : PseudoHitMode) where
   -- after one pair
-  pub met_mark : (s : Swept) (x : Pair) → T (is_fraction s.1.fraction) → T (is_fraction (pair_met impact m s x).1.fraction)
+  pub met_mark : (s : Swept) (x : Pair) → T (is_fraction s.1) → T (is_fraction (pair_met impact m s x).1)
   met_mark s x k = subst (λ (t : Float). T (is_fraction t)) (sym (met_fraction impact m s x)) (by (solid_impact impact x) (λ t e. marks x t (solid_given impact x t e).1))
     where
-      by : (o : Option Float) → ((t : Float) → o ≡ Some t → T (is_fraction t)) → T (is_fraction (unwrap_or (accepted lt o s.1.fraction) s.1.fraction))
+      by : (o : Option Float) → ((t : Float) → o ≡ Some t → T (is_fraction t)) → T (is_fraction (unwrap_or (accepted lt o s.1) s.1))
       by None g = k
-      by (Some t) g = cond_both (lt t s.1.fraction) (Some t) None (λ (o : Option Float). T (is_fraction (unwrap_or o s.1.fraction))) (λ e. g t refl) (λ e. k)
+      by (Some t) g = cond_both (lt t s.1) (Some t) None (λ (o : Option Float). T (is_fraction (unwrap_or o s.1))) (λ e. g t refl) (λ e. k)
 
   -- after a list
-  pub mets_mark : (s : Swept) (xs : List Pair) → T (is_fraction s.1.fraction) → T (is_fraction (pairs_met impact m s xs).1.fraction)
+  pub mets_mark : (s : Swept) (xs : List Pair) → T (is_fraction s.1) → T (is_fraction (pairs_met impact m s xs).1)
   mets_mark s [] k = k
   mets_mark s (x ∷ xs) k = mets_mark (pair_met impact m s x) xs (met_mark s x k)
 
@@ -146,33 +138,33 @@ module _ (e : Env) (m : PseudoHitMode) (f : Fast) (q : FastShape) (impact : Pair
     → pair_taken e.host e.step (target_of e.host f c (parent_body e.bodies c.parent)) q t
     ≡ accepted (test_for (pseudo (pair_of f k c))) (impact (pair_of f k c)) t) where
   -- a candidate is met as its pair, if it is admitted
-  candidate_met : (k : ColliderHandle) (o : Option Collider) (s : Swept) → T (is_fraction s.1.fraction)
+  candidate_met : (k : ColliderHandle) (o : Option Collider) (s : Swept) → T (is_fraction s.1)
       → candidate_in e m f q k o s ≡ pairs_met impact m s (pair_in e f k o)
   candidate_met k None s g = refl
   candidate_met k (Some c) s g = by (admits e.keeps f k c (parent_body e.bodies c.parent))
     where
       cast : met e m f q k c (parent_body e.bodies c.parent) s ≡ pair_met impact m s (pair_of f k c)
       cast =
-          ap (λ (o : Option Float). judged m f k (pair_kind f.collider c) o s) (law k c s.1.fraction g)
-          ∙ judged_taken m f k c (is_pseudo f.collider c) (accepted (test_for (pseudo (pair_of f k c))) (impact (pair_of f k c)) s.1.fraction) s
+          ap (λ (o : Option Float). judged m f k (pair_kind f.collider c) o s) (law k c s.1 g)
+          ∙ judged_taken m f k c (is_pseudo f.collider c) (accepted (test_for (pseudo (pair_of f k c))) (impact (pair_of f k c)) s.1) s
 
       by : (a : Bool)
           → cond (a && not (passed_over m f.collider c)) (met e m f q k c (parent_body e.bodies c.parent) s) s
           ≡ pairs_met impact m s (cond a (pair_of f k c ∷ []) [])
       by true =
           ap (λ (z : Swept). cond (not (passed_over m f.collider c)) z s) cast
-          ∙ passed_taken m f.collider c (pair_of f k c) (accepted (test_for (pseudo (pair_of f k c))) (impact (pair_of f k c)) s.1.fraction) s
+          ∙ passed_taken m f.collider c (pair_of f k c) (accepted (test_for (pseudo (pair_of f k c))) (impact (pair_of f k c)) s.1) s
       by false = refl
 
   -- candidates are met as the pairs of a report
-  candidates_met : (ks : List ColliderHandle) (s : Swept) → T (is_fraction s.1.fraction)
+  candidates_met : (ks : List ColliderHandle) (s : Swept) → T (is_fraction s.1)
       → candidates_swept e m f q s ks ≡ pairs_met impact m s (pairs_of e f ks)
   candidates_met [] s g = refl
   candidates_met (k ∷ ks) s g =
       let xs = pair_in e f k (found e.colliders k.0) in
       ap (λ (z : Swept). candidates_swept e m f q z ks) (candidate_met k (found e.colliders k.0) s g)
       ∙ candidates_met ks (pairs_met impact m s xs) (mets_mark impact marks m s xs g)
-      ∙ sym (met_append impact m s xs (pairs_of e f ks))
+      ∙ sym (fold-append (pair_met impact m) s xs (pairs_of e f ks))
 
 -- ---- the colliders of a body
 
@@ -215,7 +207,7 @@ module _ (e : Env) (f : Fast) (sensor : f.collider.sensor ≡ true) where
 module _ (e : Env) (room : ℕ) (m : PseudoHitMode) (h : RigidBodyHandle) (b : RigidBody) (facts : PairFacts e) (fnd : Found e b room) where
   -- a swept shape meets the pairs of its collider
   shape_met : (k : ColliderHandle) (c : Collider) (p : ColliderParent) → c.parent ≡ Some p
-      → (q : Option FastShape) → shape_of e (fast h b k c) p.relative ≡ q → (s : Swept) → T (is_fraction s.1.fraction)
+      → (q : Option FastShape) → shape_of e (fast h b k c) p.relative ≡ q → (s : Swept) → T (is_fraction s.1)
       → shape_swept e room m (fast h b k c) (way_of e (fast h b k c) p.relative) q s ≡ pairs_met (impact_of (situation e) b) m s (pairs_if e (fast h b k c) p q)
   shape_met k c p a None w s g = refl
   shape_met k c p a (Some q) w s g =
@@ -225,7 +217,7 @@ module _ (e : Env) (room : ℕ) (m : PseudoHitMode) (h : RigidBodyHandle) (b : R
       ∙ candidates_met e m f q (impact_of (situation e) b) (facts.marks b) (λ k d t. facts.capped f p q k d a w t) ks s g
 
   -- and so does a collider that has a body or none
-  by_met : (k : ColliderHandle) (c : Collider) (p : Option ColliderParent) → c.parent ≡ p → (s : Swept) → T (is_fraction s.1.fraction)
+  by_met : (k : ColliderHandle) (c : Collider) (p : Option ColliderParent) → c.parent ≡ p → (s : Swept) → T (is_fraction s.1)
       → part_by e room m (fast h b k c) p s ≡ pairs_met (impact_of (situation e) b) m s (pairs_by e (fast h b k c) p)
   by_met k c None a s g = refl
   by_met k c (Some p) a s g =
@@ -235,13 +227,13 @@ module _ (e : Env) (room : ℕ) (m : PseudoHitMode) (h : RigidBodyHandle) (b : R
       (λ z. shape_pseudo e f z p q)
 
   -- that is live or not
-  part_met : (k : ColliderHandle) (o : Option Collider) (s : Swept) → T (is_fraction s.1.fraction)
+  part_met : (k : ColliderHandle) (o : Option Collider) (s : Swept) → T (is_fraction s.1)
       → part_in e room m h b k o s ≡ pairs_met (impact_of (situation e) b) m s (pairs_at e h b k o)
   part_met k None s g = refl
   part_met k (Some c) s g = by_met k c c.parent refl s g
 
   -- and all colliders of a list
-  body_met : (ks : List ColliderHandle) (s : Swept) → T (is_fraction s.1.fraction)
+  body_met : (ks : List ColliderHandle) (s : Swept) → T (is_fraction s.1)
       → body_swept e room m h b s ks ≡ pairs_met (impact_of (situation e) b) m s (pairs_from e h b ks)
   body_met [] s g = refl
   body_met (k ∷ ks) s g =
@@ -249,10 +241,10 @@ module _ (e : Env) (room : ℕ) (m : PseudoHitMode) (h : RigidBodyHandle) (b : R
       let xs = pairs_at e h b k (found e.colliders k.0) in
       ap (λ (z : Swept). body_swept e room m h b z ks) (part_met k (found e.colliders k.0) s g)
       ∙ body_met ks (pairs_met i m s xs) (mets_mark i (facts.marks b) m s xs g)
-      ∙ sym (met_append i m s xs (pairs_from e h b ks))
+      ∙ sym (fold-append (pair_met i m) s xs (pairs_from e h b ks))
 
 -- the sweep of a body meets its admitted pairs one after the other
-pub swept_met : (e : Env) (room : ℕ) (m : PseudoHitMode) (h : RigidBodyHandle) (b : RigidBody) (hits : List PseudoHit) (count : ℕ)
+pub swept_met : (e : Env) (room : ℕ) (m : PseudoHitMode) (h : RigidBodyHandle) (b : RigidBody) (w : Written PseudoHit)
     → PairFacts e → Found e b room
-    → swept_to e room m h b hits count ≡ pairs_met (impact_of (situation e) b) m (hits, reached one_f count) (admitted_pairs e h b)
-swept_met e room m h b hits count facts fnd = body_met e room m h b facts fnd (listed b.colliders) (hits, reached one_f count) one_is_a_fraction
+    → swept_to e room m h b w ≡ pairs_met (impact_of (situation e) b) m (w, one_f) (admitted_pairs e h b)
+swept_met e room m h b w facts fnd = body_met e room m h b facts fnd (listed b.colliders) (w, one_f) one_is_a_fraction

@@ -18,7 +18,6 @@ use Rattle.hosts.specs.Hosts.{Answers}
 use Rattle.hosts.specs.HostLaws.{Lawful as LawfulHost}
 use Rattle.search.specs.Searches.{accepted}
 use Rattle.search.specs.Laws.{Accepts, Capped}
-use Rattle.search.proofs.Impacts.{none_some}
 use Rattle.casts.specs.declared.pieces.TargetKind.{TargetKind}
 use Rattle.casts.specs.declared.pieces.TargetKind.TheVariants.{Proxy, Composite, Turning}
 use Rattle.casts.specs.Pieces.{cast_at}
@@ -66,7 +65,7 @@ marked_of p m k l t = (both (le zero_f m) (le m one_f && clean m) l (both (le m 
 
 upto_by : (f c m : Float) (b : Bool) → le f c ≡ b → ◌≡◌ {A = Option Float} (cond b (Some f) None) (Some m) → (f ≡ m) × T (le m c)
 upto_by f c m true t e = let same : f ≡ m = cc in (same, subst (λ (x : Float). T (le x c)) same (passes (le f c) t))
-upto_by f c m false t e = absurd (none_some m e)
+upto_by f c m false t e = cc
 
 -- what is taken at a cap is the fraction itself, and the test accepts it
 at_is : (p : PairKind) (f c m : Float) → taken_at p f c ≡ Some m → (f ≡ m) × T (test_of p m c)
@@ -74,11 +73,11 @@ at_is Solid f c m e = let i = strictly_is f c m e in (i.2, i.1)
 at_is Pseudo f c m e = upto_by f c m (le f c) refl e
 
 if_test : (p : PairKind) (q : Option Float) (i : Float) → I.taken_if p q one_f ≡ Some i → T (test_of p i one_f)
-if_test p None i e = absurd (none_some i e)
+if_test p None i e = cc
 if_test p (Some f) i e = (at_is p f one_f i e).1
 
 unless_by : (o : CastOutcome) (c m : Float) (b : Bool) → ◌≡◌ {A = Option Float} (cond b None (upto (fraction_of o) c)) (Some m) → taken_at Pseudo (fraction_of o) c ≡ Some m
-unless_by o c m true e = absurd (none_some m e)
+unless_by o c m true e = cc
 unless_by o c m false e = e
 
 of_at : (p : PairKind) (o : CastOutcome) (c m : Float) → taken_of p o c ≡ Some m → taken_at p (fraction_of o) c ≡ Some m
@@ -100,7 +99,7 @@ if_pseudo None c = refl
 if_pseudo (Some o) c = refl
 
 solid_above : (o : Option CastOutcome) (m : Float) → taken_if Solid o one_f ≡ Some m → T (le zero_f m)
-solid_above None m e = absurd (none_some m e)
+solid_above None m e = cc
 solid_above (Some o) m e = le_of_lt zero_f m (strictly_is (fraction_of o) one_f m e).0
 
 module _ (cast : Float → Option CastOutcome) where
@@ -115,7 +114,7 @@ module _ (cast : Float → Option CastOutcome) where
   cast_above Pseudo law m e = law.from_zero m (sym (if_pseudo (cast one_f) one_f) ∙ e)
 
   cast_marked_by : (p : PairKind) → LawAt p cast → CleanLaw cast → (o : Option CastOutcome) → cast one_f ≡ o → (m : Float) → taken_if p o one_f ≡ Some m → T (le zero_f m) → Marked p m
-  cast_marked_by p law k None i m e l = absurd (none_some m e)
+  cast_marked_by p law k None i m e l = cc
   cast_marked_by p law k (Some o) i m e l =
       let a = at_is p (fraction_of o) one_f m (of_at p o one_f m e) in
       marked_of p m (subst (λ (x : Float). T (clean x)) a.0 (k.fraction one_f cap_one o i)) l a.1
@@ -140,12 +139,12 @@ module _ (h : Answers) (L : LawfulHost h) where
   host_law q Composite Solid = L.composite_solid q
   host_law q Composite Pseudo = L.composite_pseudo q
   host_law q Turning Solid = record { capped = λ c C. refl }
-  host_law q Turning Pseudo = record { capped = λ c C. refl; from_zero = λ m e. absurd (none_some m e) }
+  host_law q Turning Pseudo = record { capped = λ c C. refl; from_zero = λ m e. cc }
 
   host_clean : (q : CastQuery) (k : TargetKind) (p : PairKind) → CleanLaw (λ c. cast_at h q k p c)
   host_clean q Proxy p = L.proxy_clean q
   host_clean q Composite p = L.composite_clean q p
-  host_clean q Turning p = record { fraction = λ c C o e. absurd (none_some o e) }
+  host_clean q Turning p = record { fraction = λ c C o e. cc }
 
   module _ (s : Step) (t : Target) where
     -- the impact of a piece is a fraction that the test accepts at the cap 1
@@ -180,7 +179,7 @@ module _ (h : Answers) (L : LawfulHost h) where
 
       module _ (l : Lasts s) where
         turned_marked : (b : Bool) (i : Float) → turned b one_f ≡ Some i → Marked t.pair i
-        turned_marked true i e = absurd (none_some i e)
+        turned_marked true i e = cc
         turned_marked false i e =
             let o = h.turning_cast (turning_query s t fast m) t.pair in
             let k = (L.turning (turning_query s t fast m) t.pair).impact t.pair i l.0 l.1 e in

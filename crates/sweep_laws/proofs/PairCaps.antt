@@ -1,5 +1,5 @@
 -- The cap law of a pair, and when a shape is swept. Assumes nothing.
-use Rattle.std.proofs.Common.{◌≡◌, ℕ, Bool, true, false, cond, not, T, eqb, List, [], ◌∷◌, map, Some, None, Option, sym, refl, ap, ◌∙◌, subst}
+use Rattle.std.proofs.Common.{◌≡◌, ℕ, Bool, true, false, cond, not, T, eqb, List, [], ◌∷◌, map, length, Some, None, Option, sym, refl, ap, ◌∙◌, subst}
 use lib.Ieee.{Float, lt, le}
 use Rattle.std.proofs.lemmas.Simd.{map-map}
 use Rattle.std.proofs.lemmas.Bool.{both_ways}
@@ -15,7 +15,7 @@ use Rattle.hosts.specs.HostLaws.{Lawful as LawfulHost}
 use Rattle.records.specs.declared.rigid_body.RigidBody.{RigidBody}
 use Rattle.records.specs.declared.collider.ColliderParent.{ColliderParent}
 use Rattle.search.specs.Searches.{accepted, sought, least_of}
-use Rattle.search.proofs.Impacts.{none_some, least_present}
+use Rattle.search.proofs.Impacts.{least_present}
 use Rattle.search.proofs.Finds.{composed}
 use Rattle.casts.specs.declared.pieces.TargetKind.{TargetKind}
 use Rattle.casts.specs.Pieces.{has_proxy, swept_by, target_kind_of, is_turning}
@@ -23,9 +23,9 @@ use Rattle.casts.specs.Singles.{turns, child_pieces, pieces_of}
 use Rattle.pair_casts.specs.declared.fast_shape.FastShape.{FastShape}
 use Rattle.pair_casts.specs.declared.fast_shape.FastShapeKind.{FastShapeKind}
 use Rattle.pair_casts.specs.declared.fast_shape.FastShapeKind.TheVariants.{Convex, Compound, Nonlinear}
-use Rattle.pair_casts.specs.declared.fast_shape.SubShapes.{SubShapes}
+use Rattle.pair_casts.specs.declared.fast_shape.FastSubShape.{FastSubShape}
 use Rattle.pair_casts.specs.declared.target.Target.{Target}
-use Rattle.pair_casts.specs.FastShapes.{sub_shape, none_yet, collected, listed_in, compound_of, kind_of, motion_of, shape_by, fast_shape}
+use Rattle.pair_casts.specs.FastShapes.{sub_shape, pieces, compound_of, kind_of, motion_of, shape_by, fast_shape}
 use Rattle.pair_casts.specs.PairCasts.{sub_shape_taken, turning_taken, taken_by, taken_at}
 use Rattle.sweeps.specs.Env.{Env}
 use Rattle.sweeps.specs.Sweeps.{sweep_of, way_of}
@@ -35,49 +35,47 @@ use Rattle.sweep_laws.specs.Pairs.{Pair, pseudo, target_in, impacts_by, impacts_
 use Rattle.sweep_laws.specs.SweepLaws.{pair_of}
 use Rattle.sweep_laws.proofs.PairFacts.{test_for, PairFacts}
 use Rattle.sweep_laws.proofs.OneCasts.{test_of, accepts, Marked, piece_impact, piece_marked, piece_capped, turning_impact, turning_capped, turning_marked}
-use Rattle.sweep_laws.proofs.Tables.{piece_of, made_count, made_listed, pieces_none}
+use Rattle.sweep_laws.proofs.Tables.{piece_of, pieces_all, pieces_none}
 
 -- ---- a shape is swept exactly if its kind says so
-
--- the pieces of a Compound
-abbrev table_of : Answers → ℕ → Sweep → SubShapes
-table_of h s w = collected h w (none_yet (sub_shape s w)) (h.children s)
 
 -- what is swept is swept in some way
 shape_is : (s : ℕ) (m : Motion) (z : Option FastShapeKind) (q : FastShape) → shape_by s m z ≡ Some q
     → (y : FastShapeKind) × (z ≡ Some y) × (q ≡ record { shape = s; kind = y; motion = m })
-shape_is s m None q e = absurd (none_some q e)
+shape_is s m None q e = cc
 shape_is s m (Some y) q e = (y, refl, cc)
 
 -- and the host knows it
 shape_known : (h : Answers) (s : ℕ) (w : Sweep) (m : Motion) (a : Option ShapeKind) (q : FastShape) → shape_by s m (kind_of h s w a) ≡ Some q
     → (k : ShapeKind) × (a ≡ Some k)
-shape_known h s w m None q e = absurd (none_some q e)
+shape_known h s w m None q e = cc
 shape_known h s w m (Some k) q e = (k, refl)
 
-module _ (t : SubShapes) (p : Bool) (e : eqb t.count 0 ≡ not p) where
+module _ (ps : List FastSubShape) (p : Bool) (e : eqb (length ps) 0 ≡ not p) where
+  abbrev compound : FastShapeKind
+  compound = Compound (record { items = ps })
+
   -- a Compound is swept if some child is a piece
-  some_table : p ≡ true → (y : FastShapeKind) × (compound_of t ≡ Some y)
-  some_table i = (Compound t, ap (λ (b : Bool). cond b None (Some (Compound t))) (e ∙ ap not i))
+  some_pieces : p ≡ true → (y : FastShapeKind) × (compound_of ps ≡ Some y)
+  some_pieces i = (compound, ap (λ (b : Bool). cond b None (Some compound)) (e ∙ ap not i))
 
   -- and only then
-  table_some : (y : FastShapeKind) → compound_of t ≡ Some y → (p ≡ true) × (Compound t ≡ y)
-  table_some y k = by p (ap (λ (b : Bool). cond b None (Some (Compound t))) (sym e) ∙ k)
+  pieces_some : (y : FastShapeKind) → compound_of ps ≡ Some y → (p ≡ true) × (compound ≡ y)
+  pieces_some y k = by p (ap (λ (b : Bool). cond b None (Some compound)) (sym e) ∙ k)
     where
-      by : (b : Bool) → ◌≡◌ {A = Option FastShapeKind} (cond (not b) None (Some (Compound t))) (Some y) → (b ≡ true) × (Compound t ≡ y)
+      by : (b : Bool) → ◌≡◌ {A = Option FastShapeKind} (cond (not b) None (Some compound)) (Some y) → (b ≡ true) × (compound ≡ y)
       by true i = (refl, cc)
-      by false i = absurd (none_some y i)
+      by false i = cc
 
 module _ (h : Answers) (L : LawfulHost h) (s : ℕ) (w : Sweep) where
-  -- the table of a Compound is empty exactly if no child is a piece
-  table_none : h.kind s ≡ Some Kinds.TheVariants.Compound → eqb (table_of h s w).count 0 ≡ not (has_proxy h (h.children s))
-  table_none e =
-      ap (λ (n : ℕ). eqb n 0) (made_count h w (sub_shape s w) (h.children s) (L.few s e).1) ∙ pieces_none h w (h.children s)
+  -- a Compound has no piece exactly if no child is one
+  none_there : h.kind s ≡ Some Kinds.TheVariants.Compound → eqb (length (pieces h w (h.children s))) 0 ≡ not (has_proxy h (h.children s))
+  none_there e = pieces_none h w (h.children s) (L.few s e).1
 
   -- a shape of a kind that is swept is swept in some way
   kind_swept : (a : ShapeKind) → h.kind s ≡ Some a → swept_by h s a ≡ true → (y : FastShapeKind) × (kind_of h s w (Some a) ≡ Some y)
   kind_swept Kinds.TheVariants.Proxy e t = (Convex (sub_shape s w), refl)
-  kind_swept Kinds.TheVariants.Compound e t = some_table (table_of h s w) (has_proxy h (h.children s)) (table_none e) t
+  kind_swept Kinds.TheVariants.Compound e t = some_pieces (pieces h w (h.children s)) (has_proxy h (h.children s)) (none_there e) t
   kind_swept Kinds.TheVariants.TriMesh e t = absurd (both_ways false refl t)
   kind_swept Kinds.TheVariants.Polyline e t = absurd (both_ways false refl t)
   kind_swept Kinds.TheVariants.HeightField e t = absurd (both_ways false refl t)
@@ -87,11 +85,11 @@ module _ (h : Answers) (L : LawfulHost h) (s : ℕ) (w : Sweep) where
   -- and what is swept is of a kind that is swept
   swept_kind : (a : ShapeKind) → h.kind s ≡ Some a → (y : FastShapeKind) → kind_of h s w (Some a) ≡ Some y → swept_by h s a ≡ true
   swept_kind Kinds.TheVariants.Proxy e y k = refl
-  swept_kind Kinds.TheVariants.Compound e y k = (table_some (table_of h s w) (has_proxy h (h.children s)) (table_none e) y k).0
-  swept_kind Kinds.TheVariants.TriMesh e y k = absurd (none_some y k)
-  swept_kind Kinds.TheVariants.Polyline e y k = absurd (none_some y k)
-  swept_kind Kinds.TheVariants.HeightField e y k = absurd (none_some y k)
-  swept_kind Kinds.TheVariants.Voxels e y k = absurd (none_some y k)
+  swept_kind Kinds.TheVariants.Compound e y k = (pieces_some (pieces h w (h.children s)) (has_proxy h (h.children s)) (none_there e) y k).0
+  swept_kind Kinds.TheVariants.TriMesh e y k = cc
+  swept_kind Kinds.TheVariants.Polyline e y k = cc
+  swept_kind Kinds.TheVariants.HeightField e y k = cc
+  swept_kind Kinds.TheVariants.Voxels e y k = cc
   swept_kind Kinds.TheVariants.Other e y k = refl
 
   module _ (m : Motion) where
@@ -143,8 +141,8 @@ module _ (s : Situation) (L : LawfulHost s.host) (b : RigidBody) (x : Pair) wher
       either_marked false k ps m e = least_marked aim.pair (impact_at k) (λ q n i. piece_marked s.host L s.step aim k (piece_of q) n i) ps m e
 
       by_marked : (a k : Option ShapeKind) (m : Float) → least_of le (impacts_by s b x w a k) ≡ Some m → Marked aim.pair m
-      by_marked None k m e = absurd (none_some m e)
-      by_marked (Some a) None m e = absurd (none_some m e)
+      by_marked None k m e = cc
+      by_marked (Some a) None m e = cc
       by_marked (Some a) (Some k) m e = either_marked (turns a (target_kind_of k)) (target_kind_of k) (pieces_of s.host a x.part.shape w) m e
 
     -- ---- the cap law
@@ -191,17 +189,17 @@ module _ (s : Situation) (L : LawfulHost s.host) (b : RigidBody) (x : Pair) wher
       kinds_left Kinds.TheVariants.Compound e y i k =
           let h = s.host in
           let cs = h.children x.part.shape in
-          let same = (table_some (table_of h x.part.shape w) (has_proxy h cs) (table_none h L x.part.shape w e) y i).1 in
+          let same = (pieces_some (pieces h w cs) (has_proxy h cs) (none_there h L x.part.shape w e) y i).1 in
           let t = target_kind_of k in
           let ask = sub_shape_taken h s.step aim t in
-          let qs = listed_in (table_of h x.part.shape w) in
-          let held = made_listed h w (sub_shape x.part.shape w) cs (L.few x.part.shape e).1 in
+          let qs = pieces h w cs in
+          let held = pieces_all h w cs (L.few x.part.shape e).1 in
           subst (λ (v : FastShapeKind). taken_by h s.step aim (shape_in v) t v c ≡ left (impacts_by s b x w (Some Kinds.TheVariants.Compound) (Some k))) same
           (either_left (is_turning t) (sought ask c None qs) (map (impact_at t) (child_pieces h w cs)) (ap (sought ask c None) held ∙ all_left t (child_pieces h w cs)))
-      kinds_left Kinds.TheVariants.TriMesh e y i k = absurd (none_some y i)
-      kinds_left Kinds.TheVariants.Polyline e y i k = absurd (none_some y i)
-      kinds_left Kinds.TheVariants.HeightField e y i k = absurd (none_some y i)
-      kinds_left Kinds.TheVariants.Voxels e y i k = absurd (none_some y i)
+      kinds_left Kinds.TheVariants.TriMesh e y i k = cc
+      kinds_left Kinds.TheVariants.Polyline e y i k = cc
+      kinds_left Kinds.TheVariants.HeightField e y i k = cc
+      kinds_left Kinds.TheVariants.Voxels e y i k = cc
       kinds_left Kinds.TheVariants.Other e y i k =
           let same : Nonlinear ≡ y = cc in
           let t = target_kind_of k in
@@ -228,7 +226,7 @@ module _ (s : Situation) (L : LawfulHost s.host) (b : RigidBody) (x : Pair) wher
   -- ---- the impact of the pair
 
   at_marked : Lasts s.step → (p : Option ColliderParent) (m : Float) → least_of le (impacts_at s b x p) ≡ Some m → Marked aim.pair m
-  at_marked l None m e = absurd (none_some m e)
+  at_marked l None m e = cc
   at_marked l (Some p) m e = by_marked (sweep_of s.host b p.relative) l (s.host.kind x.part.shape) (s.host.kind x.target.shape) m e
 
   pair_marked : Lasts s.step → (m : Float) → impact_of s b x ≡ Some m → Marked aim.pair m

@@ -1,11 +1,12 @@
 -- What the sweep of a body finds. Assumes nothing.
-use Rattle.std.specs.Prelude.{◌≡◌, ℕ, ◌+◌, ◌-◌, ◌≤◌, cond, ◌&&◌, List, [], ◌∷◌, ◌++◌, length, take, drop, Some, None, Option, Float}
+use Rattle.std.specs.Prelude.{◌≡◌, ℕ, ◌+◌, ◌-◌, ◌≤◌, cond, ◌&&◌, List, [], ◌∷◌, length, take, drop, filter, flat_map, Some, None, Option, Float}
 use Rattle.std.specs.Float.Ieee.{lt}
 use Rattle.std.specs.List.{ContainsAt as Has}
 use Rattle.numbers.specs.Constants.{one_f}
 use Rattle.geometry.specs.declared.handle.RigidBodyHandle.{RigidBodyHandle}
 use Rattle.geometry.specs.declared.handle.ColliderHandle.{ColliderHandle}
 use Rattle.hosts.specs.HostLaws.{Lawful as LawfulHost}
+use Rattle.spaces.specs.Spaces.{Written}
 use Rattle.slots.specs.Store.{found}
 use Rattle.records.specs.declared.rigid_body.RigidBody.{RigidBody}
 use Rattle.records.specs.declared.collider.Collider.{Collider}
@@ -18,15 +19,15 @@ use Rattle.sweeps.specs.declared.hall.PseudoHit.{PseudoHit}
 use Rattle.sweeps.specs.declared.hall.PseudoHitMode.{PseudoHitMode}
 use Rattle.sweeps.specs.declared.hall.PseudoHitMode.TheVariants.{Record}
 use Rattle.sweeps.specs.Env.{Env}
-use Rattle.sweeps.specs.Sweeps.{Swept, reached, report_of, way_of, shape_of, body_swept}
+use Rattle.sweeps.specs.Sweeps.{Swept, report_of, way_of, shape_of, body_swept}
 use Rattle.sweep_laws.specs.Fractions.{fractions}
 use Rattle.sweep_laws.specs.Situations.{situation, Lasts}
 use Rattle.sweep_laws.specs.Pairs.{Pair, Admitted, SolidPair, pseudo, impact_of}
 use Rattle.sweep_laws.specs.Served.{Found}
 
 -- how far a body comes, by a sweep that starts at the fraction 1
-abbrev pub swept_to : Env → ℕ → PseudoHitMode → RigidBodyHandle → RigidBody → List PseudoHit → ℕ → Swept
-swept_to e room m h b hits count = body_swept e room m h b (hits, reached one_f count) (listed b.colliders)
+abbrev pub swept_to : Env → ℕ → PseudoHitMode → RigidBodyHandle → RigidBody → Written PseudoHit → Swept
+swept_to e room m h b w = body_swept e room m h b (w, one_f) (listed b.colliders)
 
 -- ---- the fraction
 
@@ -34,9 +35,9 @@ swept_to e room m h b hits count = body_swept e room m h b (hits, reached one_f 
 -- pairs, or 1 where there is none, whether pseudo pairs are noted or not.
 abbrev pub FractionIsLeast : Type 0
 FractionIsLeast =
-    (e : Env) (room : ℕ) (m : PseudoHitMode) (h : RigidBodyHandle) (b : RigidBody) (hits : List PseudoHit) (count : ℕ)
+    (e : Env) (room : ℕ) (m : PseudoHitMode) (h : RigidBodyHandle) (b : RigidBody) (w : Written PseudoHit)
     → LawfulHost e.host → Lasts e.step → Found e b room
-    → Least fractions (SolidPair (situation e) h b) (impact_of (situation e) b) (swept_to e room m h b hits count).1.fraction
+    → Least fractions (SolidPair (situation e) h b) (impact_of (situation e) b) (swept_to e room m h b w).1
 
 -- ---- the admitted pairs, in the order of the sweep
 
@@ -49,8 +50,7 @@ pair_in e f k (Some c) = cond (admits e.keeps f k c (parent_body e.bodies c.pare
 
 -- of the reported colliders those that are live and admitted, in the order of the report
 abbrev pub pairs_of : Env → Fast → List ColliderHandle → List Pair
-pairs_of e f [] = []
-pairs_of e f (k ∷ ks) = pair_in e f k (found e.colliders k.0) ++ pairs_of e f ks
+pairs_of e f ks = flat_map (λ k. pair_in e f k (found e.colliders k.0)) ks
 
 abbrev pub pairs_if : Env → Fast → ColliderParent → Option FastShape → List Pair
 pairs_if e f p None = []
@@ -67,8 +67,7 @@ pairs_at e h b k (Some c) = pairs_by e (fast h b k c) c.parent
 
 -- of the colliders of a body, in the order of its list
 abbrev pub pairs_from : Env → RigidBodyHandle → RigidBody → List ColliderHandle → List Pair
-pairs_from e h b [] = []
-pairs_from e h b (k ∷ ks) = pairs_at e h b k (found e.colliders k.0) ++ pairs_from e h b ks
+pairs_from e h b ks = flat_map (λ k. pairs_at e h b k (found e.colliders k.0)) ks
 
 abbrev pub admitted_pairs : Env → RigidBodyHandle → RigidBody → List Pair
 admitted_pairs e h b = pairs_from e h b (listed b.colliders)
@@ -90,30 +89,29 @@ hit_before n f x (Some p) = cond (pseudo x && lt p f) (record { result = n; firs
 
 -- the hits of the pseudo pairs of a list whose pseudo impacts lie before a fraction, in order
 abbrev pub hits_before : Env → ℕ → RigidBody → Float → List Pair → List PseudoHit
-hits_before e n b f [] = []
-hits_before e n b f (x ∷ xs) = hit_before n f x (impact_of (situation e) b x) ++ hits_before e n b f xs
+hits_before e n b f xs = flat_map (λ x. hit_before n f x (impact_of (situation e) b x)) xs
 
 -- the hits of a list that lie before a fraction
 abbrev pub before : Float → List PseudoHit → List PseudoHit
-before f [] = []
-before f (x ∷ xs) = cond (lt x.fraction f) (x ∷ before f xs) (before f xs)
+before f xs = filter (λ x. lt x.fraction f) xs
 
 -- what a sweep noted after the first `count` hits
-abbrev pub new_hits : ℕ → Swept → List PseudoHit
-new_hits count s = take (s.1.hits - count) (drop count s.0)
+abbrev pub new_hits : ℕ → Written PseudoHit → List PseudoHit
+new_hits count w = take (w.count - count) (drop count w.all)
 
--- Of what a sweep notes, the hits before the body's fraction are those of its admitted pseudo pairs whose pseudo impact lies before
--- it, in the order of the sweep, each under the number of the result. Earlier hits stay, and no more is noted than there are pairs.
-pub record HitsNoted (e : Env) (n : ℕ) (h : RigidBodyHandle) (b : RigidBody) (hits : List PseudoHit) (count : ℕ) (s : Swept) : Type 0 where
-  pub earlier : take count s.0 ≡ take count hits
-  pub grows : count ≤ s.1.hits
-  pub few : s.1.hits ≤ count + length (admitted_pairs e h b)
-  pub long : length s.0 ≡ length hits
-  pub noted : before s.1.fraction (new_hits count s) ≡ hits_before e n b s.1.fraction (admitted_pairs e h b)
-  pub numbered : (x : PseudoHit) → Has (new_hits count s) x → x.result ≡ n
+-- Of what a sweep notes after the hits w, those before the body's fraction are of its admitted pseudo pairs whose pseudo impact lies
+-- before it, in the order of the sweep, each under the number of the result. Earlier hits stay, and no more is noted than there are
+-- pairs.
+pub record HitsNoted (e : Env) (n : ℕ) (h : RigidBodyHandle) (b : RigidBody) (w : Written PseudoHit) (s : Swept) : Type 0 where
+  pub earlier : take w.count s.0.all ≡ take w.count w.all
+  pub grows : w.count ≤ s.0.count
+  pub few : s.0.count ≤ w.count + length (admitted_pairs e h b)
+  pub long : length s.0.all ≡ length w.all
+  pub noted : before s.1 (new_hits w.count s.0) ≡ hits_before e n b s.1 (admitted_pairs e h b)
+  pub numbered : (x : PseudoHit) → Has (new_hits w.count s.0) x → x.result ≡ n
 
 abbrev pub HitsAreTheCrossed : Type 0
 HitsAreTheCrossed =
-    (e : Env) (room n : ℕ) (h : RigidBodyHandle) (b : RigidBody) (hits : List PseudoHit) (count : ℕ)
-    → LawfulHost e.host → Lasts e.step → Found e b room → count + length (admitted_pairs e h b) ≤ length hits
-    → HitsNoted e n h b hits count (swept_to e room (Record n) h b hits count)
+    (e : Env) (room n : ℕ) (h : RigidBodyHandle) (b : RigidBody) (w : Written PseudoHit)
+    → LawfulHost e.host → Lasts e.step → Found e b room → w.count + length (admitted_pairs e h b) ≤ length w.all
+    → HitsNoted e n h b w (swept_to e room (Record n) h b w)

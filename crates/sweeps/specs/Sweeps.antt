@@ -1,5 +1,5 @@
 -- One body's sweep. Assumes nothing.
-use Rattle.std.specs.Prelude.{ℕ, ◌+◌, Bool, false, cond, not, ◌&&◌, List, [], ◌∷◌, length, take, Some, None, Option, nat_lt, slice_set, Float}
+use Rattle.std.specs.Prelude.{ℕ, Bool, false, cond, not, ◌&&◌, List, take, fold, Some, None, Option, Float}
 use Rattle.geometry.specs.declared.handle.RigidBodyHandle.{RigidBodyHandle}
 use Rattle.geometry.specs.declared.handle.ColliderHandle.{ColliderHandle}
 use Rattle.geometry.specs.declared.aabb.Aabb.{Aabb}
@@ -9,6 +9,7 @@ use Rattle.outcomes.specs.declared.pair_kind.PairKind.{PairKind}
 use Rattle.outcomes.specs.declared.pair_kind.PairKind.TheVariants.{Solid, Pseudo}
 use Rattle.hosts.specs.declared.questions.Sweep.{Sweep}
 use Rattle.hosts.specs.Hosts.{Answers}
+use Rattle.spaces.specs.Spaces.{Written, with}
 use Rattle.slots.specs.Store.{found}
 use Rattle.records.specs.declared.rigid_body.RigidBody.{RigidBody}
 use Rattle.records.specs.declared.collider.Collider.{Collider}
@@ -21,42 +22,34 @@ use Rattle.pair_casts.specs.PairCasts.{pair_taken}
 use Rattle.sweeps.specs.declared.hall.PseudoHit.{PseudoHit}
 use Rattle.sweeps.specs.declared.hall.PseudoHitMode.{PseudoHitMode}
 use Rattle.sweeps.specs.declared.hall.PseudoHitMode.TheVariants.{Record, Ignore}
-use Rattle.sweeps.specs.declared.hall.Reached.{Reached}
 use Rattle.sweeps.specs.Env.{Env}
 
--- the fraction so far, and how many hits are written
-abbrev pub reached : Float → ℕ → Reached
-reached f n = record { fraction = f; hits = n }
-
--- the space for hits, and what is reached
+-- the hits that are written, and the least fraction so far
 abbrev pub Swept : Type 0
-Swept = List PseudoHit × Reached
+Swept = Written PseudoHit × Float
 
 -- ---- one pair
 
 abbrev pub hit_of : ℕ → Fast → ColliderHandle → Float → PseudoHit
 hit_of n f k x = record { result = n; first = f.handle; second = k; fraction = x }
 
--- one hit more, where there is room
-abbrev pub noted : Swept → PseudoHit → Swept
-noted s x = cond (nat_lt s.1.hits (length s.0)) (slice_set s.0 s.1.hits x, reached s.1.fraction (s.1.hits + 1)) s
-
-abbrev pub noted_by : PseudoHitMode → Fast → ColliderHandle → Float → Swept → Swept
-noted_by (Record n) f k x s = noted s (hit_of n f k x)
-noted_by Ignore f k x s = s
+-- the hit of a pair, where there is room, unless such pairs are ignored
+abbrev pub noted_by : PseudoHitMode → Fast → ColliderHandle → Float → Written PseudoHit → Written PseudoHit
+noted_by (Record n) f k x w = with w (hit_of n f k x)
+noted_by Ignore f k x w = w
 
 -- an accepted fraction of a solid pair becomes the body's, that of a pseudo pair is noted
 abbrev pub judged : PseudoHitMode → Fast → ColliderHandle → PairKind → Option Float → Swept → Swept
 judged m f k p None s = s
-judged m f k Solid (Some x) s = (s.0, reached x s.1.hits)
-judged m f k Pseudo (Some x) s = noted_by m f k x s
+judged m f k Solid (Some x) s = (s.0, x)
+judged m f k Pseudo (Some x) s = (noted_by m f k x s.0, s.1)
 
 abbrev pub target_of : Answers → Fast → Collider → Option RigidBody → Target
 target_of h f c other = record { shape = c.shape; pose = stands_at h c other; pair = pair_kind f.collider c }
 
 -- the cast of a pair, under the fraction that is reached
 abbrev pub met : Env → PseudoHitMode → Fast → FastShape → ColliderHandle → Collider → Option RigidBody → Swept → Swept
-met e m f q k c other s = judged m f k (pair_kind f.collider c) (pair_taken e.host e.step (target_of e.host f c other) q s.1.fraction) s
+met e m f q k c other s = judged m f k (pair_kind f.collider c) (pair_taken e.host e.step (target_of e.host f c other) q s.1) s
 
 -- pseudo pairs have no part in a sweep that ignores them
 abbrev pub passed_over : PseudoHitMode → Collider → Collider → Bool
@@ -77,8 +70,7 @@ candidate_swept e m f q s k = candidate_in e m f q k (found e.colliders k.0) s
 -- ---- one collider
 
 abbrev pub candidates_swept : Env → PseudoHitMode → Fast → FastShape → Swept → List ColliderHandle → Swept
-candidates_swept e m f q s [] = s
-candidates_swept e m f q s (k ∷ ks) = candidates_swept e m f q (candidate_swept e m f q s k) ks
+candidates_swept e m f q s ks = fold (candidate_swept e m f q) s ks
 
 -- the way of a collider that stands at a relative pose of its body
 abbrev pub sweep_of : Answers → RigidBody → Pose → Sweep
@@ -127,5 +119,4 @@ part_swept e room m h b s k = part_in e room m h b k (found e.colliders k.0) s
 
 -- the colliders of a body, in the order of its list
 abbrev pub body_swept : Env → ℕ → PseudoHitMode → RigidBodyHandle → RigidBody → Swept → List ColliderHandle → Swept
-body_swept e room m h b s [] = s
-body_swept e room m h b s (k ∷ ks) = body_swept e room m h b (part_swept e room m h b s k) ks
+body_swept e room m h b s ks = fold (part_swept e room m h b) s ks

@@ -1,12 +1,15 @@
 //! The colliders of one swept body.
+//!
+//! The space for candidates, the fraction and the space for hits go side by side, as in `candidates`.
 ghost use Rattle.std.specs.Prelude.{◌≡◌, length, Some as Present};
+ghost use Rattle.spaces.specs.Spaces.{state, SameSpace};
 ghost use Rattle.records.specs.Lists.{listed as listed_handles};
 ghost use Rattle.pairs.specs.Pairs.{fast_of};
 ghost use Rattle.sweeps.specs.Env.{hall_of};
 ghost use Rattle.sweeps.specs.Sweeps.{sweep_of, swept_box, shape_swept, collider_swept, takes_part, part_by, part_swept, body_swept};
 
-use crate::candidates::handle_candidates;
-use crate::hall::{Hall, PseudoHit, PseudoHitMode, Reached};
+use crate::candidates::FastSweep;
+use crate::hall::{Hall, PseudoHit, PseudoHitMode};
 use finders::{Filter, Finder};
 use geometry::{Aabb, ColliderHandle, Pose, RigidBodyHandle};
 use hosts::{Host, Sweep};
@@ -14,6 +17,7 @@ use pair_casts::FastShape;
 use pairs::FastCollider;
 use records::{Collider, RigidBody};
 use slots::get;
+use spaces::Space;
 
 /// The way of a collider that stands at a relative pose of its body.
 fn collider_sweep<H: Host>(host: &H, body: &RigidBody, relative: Pose) -> Sweep
@@ -34,58 +38,6 @@ fn swept_aabb<H: Host>(host: &H, shape: u32, sweep: Sweep) -> Aabb
         .merged(host.aabb(shape, sweep.end))
 }
 
-/// Asks the finder once for what lies on the way of a fast shape, and casts at it.
-fn sweep_shape<H: Host, D: Finder, F: Filter>(
-    hall: &Hall<H, D, F>,
-    mode: PseudoHitMode,
-    fast: &FastCollider,
-    shape: &FastShape,
-    sweep: Sweep,
-    candidates: &mut [ColliderHandle],
-    reached: Reached,
-    hits: &mut [PseudoHit],
-) -> Reached
-    ensures { (hits.new, result) ≡ shape_swept (hall_of H.Host D.Finder F.Filter hall.now) (length candidates.old) mode (fast_of fast.now) sweep (Present shape.now) (hits.old, reached) }
-{
-    let aabb = swept_aabb(hall.host, fast.collider.shape, sweep);
-    let count = hall.finder.report(aabb, hall.step.prediction, candidates);
-    handle_candidates(
-        hall,
-        mode,
-        fast,
-        shape,
-        &candidates[0..count],
-        reached,
-        hits,
-    )
-}
-
-/// Sweeps a collider that stands at a relative pose of its body, unless its shape is never swept.
-fn sweep_collider<H: Host, D: Finder, F: Filter>(
-    hall: &Hall<H, D, F>,
-    mode: PseudoHitMode,
-    fast: &FastCollider,
-    relative: Pose,
-    candidates: &mut [ColliderHandle],
-    reached: Reached,
-    hits: &mut [PseudoHit],
-) -> Reached
-    ensures { (hits.new, result) ≡ collider_swept (hall_of H.Host D.Finder F.Filter hall.now) (length candidates.old) mode (fast_of fast.now) relative (hits.old, reached) }
-{
-    let sweep = collider_sweep(hall.host, fast.body, relative);
-    let shape = FastShape::new(
-        hall.host,
-        fast.collider.shape,
-        sweep,
-        fast.body.linvel,
-        fast.body.angvel,
-    );
-    match &shape {
-        Some(shape) => sweep_shape(hall, mode, fast, shape, sweep, candidates, reached, hits),
-        None => reached,
-    }
-}
-
 /// Whether a collider is swept at all: not a disabled one, and no sensor in a sweep that ignores them.
 fn takes_part(mode: PseudoHitMode, collider: &Collider) -> bool
     ensures { result ≡ takes_part mode collider.now }
@@ -96,66 +48,124 @@ fn takes_part(mode: PseudoHitMode, collider: &Collider) -> bool
     }
 }
 
-/// Sweeps a collider of a body, if it takes part.
-fn sweep_part<H: Host, D: Finder, F: Filter>(
-    hall: &Hall<H, D, F>,
-    mode: PseudoHitMode,
-    fast: &FastCollider,
-    candidates: &mut [ColliderHandle],
-    reached: Reached,
-    hits: &mut [PseudoHit],
-) -> Reached
-    ensures { (hits.new, result) ≡ part_by (hall_of H.Host D.Finder F.Filter hall.now) (length candidates.old) mode (fast_of fast.now) fast.now.collider.now.parent (hits.old, reached) }
-{
-    match fast.collider.parent {
-        Some(parent) if takes_part(mode, fast.collider) => {
-            sweep_collider(hall, mode, fast, parent.relative, candidates, reached, hits)
+impl<'a, H: Host, D: Finder, F: Filter> FastSweep<'a, H, D, F> {
+    /// Asks the finder once for what lies on the way, and casts at it.
+    fn sweep_along(
+        &self,
+        sweep: Sweep,
+        candidates: &mut [ColliderHandle],
+        reached: f32,
+        hits: &mut Space<PseudoHit>,
+    ) -> f32
+        ensures same_space { SameSpace hits.old hits.new }
+        ensures value { (state hits.new, result) ≡ shape_swept (hall_of H.Host D.Finder F.Filter self.now.hall.now) (length candidates.old) self.now.mode (fast_of self.now.fast) sweep (Present self.now.shape.now) (state hits.old, reached) }
+    {
+        let hall = self.hall;
+        let aabb = swept_aabb(hall.host, self.fast.collider.shape, sweep);
+        let count = hall.finder.report(aabb, hall.step.prediction, candidates);
+        self.handle_candidates(&candidates[..count], reached, hits)
+    }
+}
+
+/// A body that is swept from its position to its next position, among what a hall has.
+#[derive(Drop)]
+pub struct BodySweep<'a, H, D, F> {
+    pub hall: &'a Hall<'a, H, D, F>,
+    pub mode: PseudoHitMode,
+    pub owner: RigidBodyHandle,
+    pub body: &'a RigidBody,
+}
+
+impl<'a, H: Host, D: Finder, F: Filter> BodySweep<'a, H, D, F> {
+    /// Sweeps a collider that stands at a relative pose of its body, unless its shape is never swept.
+    fn sweep_collider(
+        &self,
+        fast: FastCollider,
+        relative: Pose,
+        candidates: &mut [ColliderHandle],
+        reached: f32,
+        hits: &mut Space<PseudoHit>,
+    ) -> f32
+        ensures same_space { SameSpace hits.old hits.new }
+        ensures value { (state hits.new, result) ≡ collider_swept (hall_of H.Host D.Finder F.Filter self.now.hall.now) (length candidates.old) self.now.mode (fast_of fast.entry) relative (state hits.old, reached) }
+    {
+        let body = fast.body;
+        let sweep = collider_sweep(self.hall.host, body, relative);
+        let Some(shape) = FastShape::new(
+            self.hall.host,
+            fast.collider.shape,
+            sweep,
+            body.linvel,
+            body.angvel,
+        ) else {
+            return reached;
+        };
+        let fast_sweep = FastSweep {
+            hall: self.hall,
+            mode: self.mode,
+            fast,
+            shape: &shape,
+        };
+        fast_sweep.sweep_along(sweep, candidates, reached, hits)
+    }
+
+    /// Sweeps a collider of the body, if it takes part.
+    fn sweep_part(
+        &self,
+        fast: FastCollider,
+        candidates: &mut [ColliderHandle],
+        reached: f32,
+        hits: &mut Space<PseudoHit>,
+    ) -> f32
+        ensures same_space { SameSpace hits.old hits.new }
+        ensures value { (state hits.new, result) ≡ part_by (hall_of H.Host D.Finder F.Filter self.now.hall.now) (length candidates.old) self.now.mode (fast_of fast.entry) fast.entry.collider.now.parent (state hits.old, reached) }
+    {
+        match fast.collider.parent {
+            Some(parent) if takes_part(self.mode, fast.collider) => {
+                self.sweep_collider(fast, parent.relative, candidates, reached, hits)
+            }
+            _ => reached,
         }
-        _ => reached,
     }
-}
 
-/// Sweeps the collider that a handle of a body's list names.
-fn sweep_listed<'h, H: Host, D: Finder, F: Filter>(
-    hall: &Hall<'h, H, D, F>,
-    mode: PseudoHitMode,
-    owner: RigidBodyHandle,
-    body: &'h RigidBody,
-    handle: ColliderHandle,
-    candidates: &mut [ColliderHandle],
-    reached: Reached,
-    hits: &mut [PseudoHit],
-) -> Reached
-    ensures { (hits.new, result) ≡ part_swept (hall_of H.Host D.Finder F.Filter hall.now) (length candidates.old) mode owner body.now (hits.old, reached) handle }
-{
-    let Some(collider) = get(hall.colliders, handle.0) else {
-        return reached;
-    };
-    let fast = FastCollider {
-        owner,
-        body,
-        handle,
-        collider,
-    };
-    sweep_part(hall, mode, &fast, candidates, reached, hits)
-}
-
-/// Sweeps a body from its position to its next position: each of its colliders, in the order of its list, against what the finder
-/// reports. It answers the least solid impact fraction, and writes the hits of pseudo pairs.
-pub fn sweep_fast_body<'h, H: Host, D: Finder, F: Filter>(
-    hall: &Hall<'h, H, D, F>,
-    mode: PseudoHitMode,
-    owner: RigidBodyHandle,
-    body: &'h RigidBody,
-    candidates: &mut [ColliderHandle],
-    start: Reached,
-    hits: &mut [PseudoHit],
-) -> Reached
-    ensures { (hits.new, result) ≡ body_swept (hall_of H.Host D.Finder F.Filter hall.now) (length candidates.old) mode owner body.now (hits.old, start) (listed_handles body.now.colliders) }
-{
-    let mut reached = start;
-    for handle in body.colliders.as_slice() {
-        reached = sweep_listed(hall, mode, owner, body, *handle, candidates, reached, hits);
+    /// Sweeps the collider that a handle of the body's list names.
+    fn sweep_listed(
+        &self,
+        handle: ColliderHandle,
+        candidates: &mut [ColliderHandle],
+        reached: f32,
+        hits: &mut Space<PseudoHit>,
+    ) -> f32
+        ensures same_space { SameSpace hits.old hits.new }
+        ensures value { (state hits.new, result) ≡ part_swept (hall_of H.Host D.Finder F.Filter self.now.hall.now) (length candidates.old) self.now.mode self.now.owner self.now.body.now (state hits.old, reached) handle }
+    {
+        let Some(collider) = get(self.hall.colliders, handle.0) else {
+            return reached;
+        };
+        let fast = FastCollider {
+            owner: self.owner,
+            body: self.body,
+            handle,
+            collider,
+        };
+        self.sweep_part(fast, candidates, reached, hits)
     }
-    reached
+
+    /// Sweeps each collider of the body, in the order of its list, against what the finder reports, under the fraction `start`. It answers
+    /// the least solid impact fraction below that, or `start`, and writes the hits of pseudo pairs.
+    pub fn run(
+        &self,
+        candidates: &mut [ColliderHandle],
+        start: f32,
+        hits: &mut Space<PseudoHit>,
+    ) -> f32
+        ensures same_space { SameSpace hits.old hits.new }
+        ensures value { (state hits.new, result) ≡ body_swept (hall_of H.Host D.Finder F.Filter self.now.hall.now) (length candidates.old) self.now.mode self.now.owner self.now.body.now (state hits.old, start) (listed_handles self.now.body.now.colliders) }
+    {
+        let mut reached = start;
+        for handle in self.body.colliders.as_slice() {
+            reached = self.sweep_listed(*handle, candidates, reached, hits);
+        }
+        reached
+    }
 }

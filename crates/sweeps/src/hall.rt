@@ -1,4 +1,4 @@
-//! All that a sweep reads, and what it hands on from pair to pair.
+//! All that a sweep reads, and what it writes.
 use geometry::{ColliderHandle, RigidBodyHandle};
 use pair_casts::Step;
 use records::{Collider, RigidBody};
@@ -25,7 +25,8 @@ pub struct PseudoHit {
 }
 
 /// What becomes of pseudo pairs: noted under the number of a result, or passed over.
-#[derive(Clone, Copy)]
+// no Option: `None` would not say that such pairs, and sensors, are left out
+#[derive(Clone, Copy, PartialEq, Eq, Debug)]
 pub enum PseudoHitMode {
     Record(usize),
     Ignore,
@@ -36,11 +37,4 @@ pub enum PseudoHitMode {
 pub struct BodyContinuousResult {
     pub handle: RigidBodyHandle,
     pub fraction: f32,
-}
-
-/// How far a swept body comes, as far as is known, and how many hits are written.
-#[derive(Clone, Copy)]
-pub struct Reached {
-    pub fraction: f32,
-    pub hits: usize,
 }

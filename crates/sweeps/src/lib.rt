@@ -6,6 +6,6 @@ mod candidates;
 mod colliders;
 mod hall;
 
-pub use candidates::handle_candidate;
-pub use colliders::sweep_fast_body;
-pub use hall::{BodyContinuousResult, Hall, PseudoHit, PseudoHitMode, Reached};
+pub use candidates::FastSweep;
+pub use colliders::BodySweep;
+pub use hall::{BodyContinuousResult, Hall, PseudoHit, PseudoHitMode};

@@ -1,57 +1,50 @@
--- The parts of a text between marks, one after another, and the numbers that they are. Assumes nothing.
-use Rattle.std.proofs.Common.{◌≡◌, ℕ, suc, ◌<◌, Bool, true, false, cond, eqb, List, [], ◌∷◌, length, take, drop, Ok, Err, Result, sym, refl, ap, ◌∙◌, arith, length-drop}
+-- The numbers of a word, one part after another. Assumes nothing.
+use Rattle.std.proofs.Common.{◌≡◌, ℕ, zero, suc, ◌+◌, ◌<◌, ◌≤◌, List, [], ◌∷◌, ◌++◌, length, get_or, take, drop, Ok, Err, Result, sym, refl, ap, ◌∙◌, append_assoc, append-nil, length-append, arith}
 use lib.Ieee.{Float}
-use Rattle.texts.specs.declared.cuts.Until.TheVariants.{Mark}
+use Rattle.arrayvec.specs.ArrayVec.{ArrayVec}
+use Rattle.std.proofs.lemmas.List.{at_drop_more, at_drop_all, take_all}
 use Rattle.texts.specs.declared.trouble.Trouble.{Trouble}
-use Rattle.texts.specs.declared.places.Joined.{Joined}
-use Rattle.texts.specs.Cuts.{reach_of, front_of, past_of, lengthened, parts_of}
 use Rattle.texts.specs.Reals.{number_of}
-use Rattle.texts.specs.Places.{and_then, with_number, numbers_of}
+use Rattle.texts.specs.Places.{and_then, numbers_of, kept_of}
 
--- the parts that follow a mark
-abbrev following : ℕ → List ℕ → List (List ℕ)
-following m [] = []
-following m (b ∷ bs) = parts_of m bs
+-- eight of the numbers that there are, and of those that follow
+abbrev pub kept_with : List Float → List Float → Result (ArrayVec Float) Trouble
+kept_with s xs = Ok (record { items = take 8 (s ++ xs) })
 
-parts_step : (m : ℕ) (bs : List ℕ) → parts_of m bs ≡ front_of (Mark m) bs ∷ following m (past_of (Mark m) bs)
-parts_step m [] = refl
-parts_step m (b ∷ bs) = go (parts_step m bs) (eqb b m)
-  where
-    go : parts_of m bs ≡ front_of (Mark m) bs ∷ following m (past_of (Mark m) bs) → (t : Bool) → cond t ([] ∷ parts_of m bs) (lengthened b (parts_of m bs))
-        ≡ take (cond t 0 (suc (reach_of (Mark m) bs))) (b ∷ bs) ∷ following m (drop (cond t 0 (suc (reach_of (Mark m) bs))) (b ∷ bs))
-    go h true = refl
-    go h false = ap (lengthened b) h
+abbrev pub kept_after : List Float → List (List ℕ) → Result (ArrayVec Float) Trouble
+kept_after s ws = and_then (numbers_of ws) (kept_with s)
 
-none_follow : (m : ℕ) (bs : List ℕ) → length bs ≡ 0 → following m bs ≡ []
-none_follow m [] h = refl
-none_follow m (b ∷ bs) h = absurd (omega arith)
+take_again : {A : Type 0} (n : ℕ) (xs ys : List A) → take n (take n xs ++ ys) ≡ take n (xs ++ ys)
+take_again zero xs ys = refl
+take_again (suc n) [] ys = refl
+take_again (suc n) (x ∷ xs) ys = ap (λ (l : List _). x ∷ l) (take_again n xs ys)
 
-some_follow : (m : ℕ) (bs : List ℕ) → 0 < length bs → following m bs ≡ parts_of m (drop 1 bs)
-some_follow m [] h = absurd (omega arith)
-some_follow m (b ∷ bs) h = refl
+kept_more : (s : List Float) (x : Float) (ws : List (List ℕ)) (r : Result (List Float) Trouble)
+    → and_then r (kept_with (take 8 (s ++ x ∷ []))) ≡ and_then (and_then r (λ xs. Ok (x ∷ xs))) (kept_with s)
+kept_more s x ws (Ok xs) =
+    ap (λ (l : List Float). Ok (record { items = l })) (take_again 8 (s ++ x ∷ []) xs ∙ ap (take 8) (append_assoc s (x ∷ []) xs))
+kept_more s x ws (Err e) = refl
 
-module _ (s : Joined) (bs : List ℕ) {all : Result Joined Trouble} (inv : numbers_of s (parts_of 44 bs) ≡ all) where
-  -- by what the first part is
-  at_first : (r : Result Float Trouble) → number_of (front_of (Mark 44) bs) ≡ r
-      → and_then r (λ x. numbers_of (with_number s x) (following 44 (past_of (Mark 44) bs))) ≡ all
-  at_first r e =
-      sym (ap (λ (q : Result Float Trouble). and_then q (λ x. numbers_of (with_number s x) (following 44 (past_of (Mark 44) bs)))) e)
-      ∙ sym (ap (numbers_of s) (parts_step 44 bs))
+module _ (s : List Float) (all : List (List ℕ)) (n : ℕ) (w : List ℕ) (h : n < length all) (i : w ≡ get_or all n w)
+    (inv : kept_after s (drop n all) ≡ kept_of all) where
+  -- by what the next part is
+  turn : (r : Result Float Trouble) → number_of w ≡ r
+      → and_then (and_then r (λ x. and_then (numbers_of (drop (n + 1) all)) (λ xs. Ok (x ∷ xs)))) (kept_with s) ≡ kept_of all
+  turn r e =
+      sym (ap (λ (q : Result Float Trouble). and_then (and_then q (λ x. and_then (numbers_of (drop (n + 1) all)) (λ xs. Ok (x ∷ xs)))) (kept_with s)) e)
+      ∙ ap (λ (v : List ℕ). kept_after s (v ∷ drop (n + 1) all)) i
+      ∙ sym (at_drop_more (kept_after s) all n w h)
       ∙ inv
 
-  pub bad_part : (e : Trouble) → number_of (front_of (Mark 44) bs) ≡ Err e → Err e ≡ all
-  bad_part e h = at_first (Err e) h
+  pub bad_part : (e : Trouble) → number_of w ≡ Err e → Err e ≡ kept_of all
+  bad_part e f = turn (Err e) f
 
-  pub last_part : (x : Float) → number_of (front_of (Mark 44) bs) ≡ Ok x → length (past_of (Mark 44) bs) ≡ 0 → Ok (with_number s x) ≡ all
-  last_part x h z = sym (ap (numbers_of (with_number s x)) (none_follow 44 (past_of (Mark 44) bs) z)) ∙ at_first (Ok x) h
+  pub next_part : (x : Float) → number_of w ≡ Ok x → kept_after (take 8 (s ++ x ∷ [])) (drop (n + 1) all) ≡ kept_of all
+  next_part x f = kept_more s x (drop (n + 1) all) (numbers_of (drop (n + 1) all)) ∙ turn (Ok x) f
 
-  pub next_part : (x : Float) → number_of (front_of (Mark 44) bs) ≡ Ok x → 0 < length (past_of (Mark 44) bs)
-      → numbers_of (with_number s x) (parts_of 44 (drop 1 (past_of (Mark 44) bs))) ≡ all
-  next_part x h z = sym (ap (numbers_of (with_number s x)) (some_follow 44 (past_of (Mark 44) bs) z)) ∙ at_first (Ok x) h
-
--- what follows a mark is shorter
-pub shorter : (bs tail rest : List ℕ) → tail ≡ past_of (Mark 44) bs → rest ≡ drop 1 tail → (length tail ≡ 0 → ⊥) → length rest < length bs
-shorter bs tail rest e f h =
-    let p = ap length e ∙ length-drop (reach_of (Mark 44) bs) bs in
-    let q = ap length f ∙ length-drop 1 tail in
-    omega arith
+module _ (s : List Float) (all : List (List ℕ)) (n : ℕ) (inv : kept_after s (drop n all) ≡ kept_of all) where
+  pub all_read : length s ≤ 8 → length all ≤ n → Ok (record { items = s }) ≡ kept_of all
+  all_read few h =
+      ap (λ (l : List Float). Ok (record { items = l })) (sym (take_all 8 (s ++ []) (omega (arith, length-append s [])) ∙ append-nil s))
+      ∙ sym (at_drop_all (kept_after s) all n h)
+      ∙ inv

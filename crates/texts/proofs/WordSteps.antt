@@ -1,87 +1,92 @@
 -- The words of a text, one after another. Assumes nothing.
-use Rattle.std.proofs.Common.{◌≡◌, ℕ, zero, suc, ◌+◌, ◌-◌, ◌≤◌, Bool, true, false, cond, not, List, [], ◌∷◌, length, get_or, take, drop, sym, refl, ap, ◌∙◌, add-zero, arith}
-use Rattle.std.proofs.lemmas.List.{drop-drop, get_or-drop}
-use Rattle.texts.specs.declared.cuts.Until.TheVariants.{Blank, Nonblank}
-use Rattle.texts.specs.Cuts.{is_blank, reach_of, front_of, past_of, lengthened}
-use Rattle.texts.specs.Words.{before, words_of, past_word}
+use Rattle.std.proofs.Common.{◌≡◌, ℕ, suc, ◌+◌, Bool, true, false, cond, not, List, [], ◌∷◌, length, take, drop, sym, refl, ap, ◌∙◌, arith}
+use Rattle.std.specs.List.{filter, position_or_len, slice_split, onto_first}
+use Rattle.texts.specs.Cuts.{is_blank, front_of, past_of}
+use Rattle.texts.specs.Words.{has_bytes, words_of}
 
--- the words of a text that begins with one
-abbrev first_of : List ℕ → List (List ℕ)
-first_of [] = []
-first_of (b ∷ bs) = front_of Blank (b ∷ bs) ∷ words_of (past_of Blank (b ∷ bs))
+-- the parts that follow a cut
+abbrev following : (ℕ → Bool) → List ℕ → List (List ℕ)
+following p [] = []
+following p (b ∷ bs) = slice_split p bs
 
--- a byte that is no blank begins a word, which goes up to the next blank
-begun : (b : ℕ) (bs : List ℕ) → before b bs (words_of bs) ≡ (b ∷ front_of Blank bs) ∷ words_of (past_of Blank bs)
-begun b [] = refl
-begun b (c ∷ cs) = go (begun c cs) (is_blank c) refl
+one_more : (n : ℕ) → 1 + n ≡ suc n
+one_more n = omega arith
+
+pub parts_step : (p : ℕ → Bool) (bs : List ℕ) → slice_split p bs ≡ front_of p bs ∷ following p (past_of p bs)
+parts_step p [] = refl
+parts_step p (b ∷ bs) = go (parts_step p bs) (p b)
   where
-    go : before c cs (words_of cs) ≡ (c ∷ front_of Blank cs) ∷ words_of (past_of Blank cs) → (t : Bool) → is_blank c ≡ t
-        → cond t ((b ∷ []) ∷ words_of (c ∷ cs)) (lengthened b (words_of (c ∷ cs)))
-        ≡ (b ∷ take (cond t 0 (suc (reach_of Blank cs))) (c ∷ cs)) ∷ words_of (drop (cond t 0 (suc (reach_of Blank cs))) (c ∷ cs))
-    go h true e = refl
-    go h false e = ap (lengthened b) (ap (λ (t : Bool). cond t (words_of cs) (before c cs (words_of cs))) e ∙ h)
+    go : slice_split p bs ≡ front_of p bs ∷ following p (past_of p bs) → (t : Bool) → cond t ([] ∷ slice_split p bs) (onto_first b (slice_split p bs))
+        ≡ take (cond (not t) (1 + position_or_len p bs) 0) (b ∷ bs) ∷ following p (drop (cond (not t) (1 + position_or_len p bs) 0) (b ∷ bs))
+    go h true = refl
+    go h false =
+        ap (onto_first b) h
+        ∙ ap (λ (n : ℕ). take n (b ∷ bs) ∷ following p (drop n (b ∷ bs))) (sym (one_more (position_or_len p bs)))
 
-step : (bs : List ℕ) → words_of bs ≡ first_of (past_of Nonblank bs)
-step [] = refl
-step (b ∷ bs) = go (step bs) (is_blank b) refl
+-- what is left begins with a blank, or is empty
+left_words : (bs : List ℕ) → filter has_bytes (following is_blank (past_of is_blank bs)) ≡ words_of (past_of is_blank bs)
+left_words [] = refl
+left_words (b ∷ bs) = go (left_words bs) (is_blank b) refl
   where
-    go : words_of bs ≡ first_of (past_of Nonblank bs) → (t : Bool) → is_blank b ≡ t
-        → cond t (words_of bs) (before b bs (words_of bs)) ≡ first_of (drop (cond (not t) 0 (suc (reach_of Nonblank bs))) (b ∷ bs))
-    go h true e = h
+    go : filter has_bytes (following is_blank (past_of is_blank bs)) ≡ words_of (past_of is_blank bs) → (t : Bool) → is_blank b ≡ t
+        → filter has_bytes (following is_blank (drop (cond (not t) (1 + position_or_len is_blank bs) 0) (b ∷ bs)))
+        ≡ words_of (drop (cond (not t) (1 + position_or_len is_blank bs) 0) (b ∷ bs))
+    go h true e = sym (ap (λ (t : Bool). filter has_bytes (cond t ([] ∷ slice_split is_blank bs) (onto_first b (slice_split is_blank bs)))) e)
     go h false e =
-        begun b bs
-        ∙ ap (λ (t : Bool). take (cond t 0 (suc (reach_of Blank bs))) (b ∷ bs) ∷ words_of (drop (cond t 0 (suc (reach_of Blank bs))) (b ∷ bs))) (sym e)
+        let e = one_more (position_or_len is_blank bs) in
+        ap (λ (n : ℕ). filter has_bytes (following is_blank (drop n (b ∷ bs)))) e
+        ∙ h
+        ∙ ap (λ (n : ℕ). words_of (drop n (b ∷ bs))) (sym e)
 
-head_of : (bs : List ℕ) → get_or (first_of bs) 0 [] ≡ front_of Blank bs
-head_of [] = refl
-head_of (b ∷ bs) = refl
+some_of : (w : List ℕ) (ws : List (List ℕ)) → (length w ≡ 0 → ⊥) → filter has_bytes (w ∷ ws) ≡ w ∷ filter has_bytes ws
+some_of [] ws h = absurd (h refl)
+some_of (b ∷ bs) ws h = refl
 
-tail_of : (bs : List ℕ) → drop 1 (first_of bs) ≡ words_of (past_of Blank bs)
-tail_of [] = refl
-tail_of (b ∷ bs) = refl
+-- a text that begins with a word
+begun : (b : ℕ) (bs : List ℕ) → is_blank b ≡ false → words_of (b ∷ bs) ≡ front_of is_blank (b ∷ bs) ∷ words_of (past_of is_blank (b ∷ bs))
+begun b bs h =
+    ap (filter has_bytes) (parts_step is_blank (b ∷ bs))
+    ∙ some_of (front_of is_blank (b ∷ bs)) (following is_blank (past_of is_blank (b ∷ bs))) (longer h)
+    ∙ ap (λ (ws : List (List ℕ)). front_of is_blank (b ∷ bs) ∷ ws) (left_words (b ∷ bs))
+  where
+    longer : is_blank b ≡ false → length (front_of is_blank (b ∷ bs)) ≡ 0 → ⊥
+    longer e z =
+        let f = ap (λ (t : Bool). length (take (cond (not t) (1 + position_or_len is_blank bs) 0) (b ∷ bs))) e in
+        let g = ap (λ (n : ℕ). length (take n (b ∷ bs))) (one_more (position_or_len is_blank bs)) in
+        omega arith
 
-pub first_word : (bs : List ℕ) → get_or (words_of bs) 0 [] ≡ front_of Blank (past_of Nonblank bs)
-first_word bs = ap (λ (ws : List (List ℕ)). get_or ws 0 []) (step bs) ∙ head_of (past_of Nonblank bs)
-
-pub words_past : (bs : List ℕ) → words_of (past_word bs) ≡ drop 1 (words_of bs)
-words_past bs = sym (ap (drop 1) (step bs) ∙ tail_of (past_of Nonblank bs))
-
--- the first word of a text with the words from n on
-pub nth_word : (bs : List ℕ) (ws : List (List ℕ)) (n : ℕ) → words_of bs ≡ drop n ws → front_of Blank (past_of Nonblank bs) ≡ get_or ws n []
-nth_word bs ws n e =
-    sym (first_word bs) ∙ ap (λ (vs : List (List ℕ)). get_or vs 0 []) e ∙ get_or-drop n ws 0 [] ∙ ap (λ (k : ℕ). get_or ws k []) (add-zero n)
-
--- one word further
-pub one_further : (bs : List ℕ) (ws : List (List ℕ)) (n : ℕ) → words_of bs ≡ drop n ws → words_of (past_word bs) ≡ drop (n + 1) ws
-one_further bs ws n e = words_past bs ∙ ap (drop 1) e ∙ drop-drop 1 n ws
-
-drop_none : {A : Type 0} (n : ℕ) → drop {A = A} n [] ≡ []
-drop_none zero = refl
-drop_none (suc n) = refl
-
-empty_is : (bs : List ℕ) → length bs ≡ 0 → bs ≡ []
-empty_is [] h = refl
-empty_is (b ∷ bs) h = absurd (omega arith)
-
--- past the end there are no words
-pub none_left : (bs : List ℕ) (ws : List (List ℕ)) (n m : ℕ) → length bs ≡ 0 → n ≤ m → words_of bs ≡ drop n ws → words_of bs ≡ drop m ws
-none_left bs ws n m h le e =
-    let z = ap words_of (empty_is bs h) in
-    let d : n + (m - n) ≡ m = omega arith in
-    z ∙ sym (drop_none (m - n)) ∙ ap (drop (m - n)) (sym z ∙ e) ∙ drop-drop (m - n) n ws ∙ ap (λ (k : ℕ). drop k ws) d
-
-first_of_none : (bs : List ℕ) → length bs ≡ 0 → first_of bs ≡ []
-first_of_none [] h = refl
-first_of_none (b ∷ bs) h = absurd (omega arith)
-
-first_of_some : (bs : List ℕ) → (length bs ≡ 0 → ⊥) → first_of bs ≡ front_of Blank bs ∷ words_of (past_of Blank bs)
-first_of_some [] h = absurd (h refl)
-first_of_some (b ∷ bs) h = refl
+abbrev pub past_blanks : List ℕ → List ℕ
+past_blanks = past_of (λ b. not (is_blank b))
 
 -- a text of blanks has no word
-pub no_words : (bs : List ℕ) → length (past_of Nonblank bs) ≡ 0 → words_of bs ≡ []
-no_words bs h = step bs ∙ first_of_none (past_of Nonblank bs) h
+pub no_words : (bs : List ℕ) → length (past_blanks bs) ≡ 0 → words_of bs ≡ []
+no_words [] h = refl
+no_words (b ∷ bs) h = go (no_words bs) (is_blank b) refl h
+  where
+    go : (length (past_blanks bs) ≡ 0 → words_of bs ≡ []) → (t : Bool) → is_blank b ≡ t
+        → length (drop (cond (not (not t)) (1 + position_or_len (λ b. not (is_blank b)) bs) 0) (b ∷ bs)) ≡ 0
+        → words_of (b ∷ bs) ≡ []
+    go k true e h =
+        let f = ap (λ (n : ℕ). length (drop n (b ∷ bs))) (one_more (position_or_len (λ b. not (is_blank b)) bs)) in
+        ap (λ (t : Bool). filter has_bytes (cond t ([] ∷ slice_split is_blank bs) (onto_first b (slice_split is_blank bs)))) e
+        ∙ k (sym f ∙ h)
+    go k false e h = absurd (omega arith)
 
 -- any other has a first word, and those of the text past it
-pub some_words : (bs : List ℕ) → (length (past_of Nonblank bs) ≡ 0 → ⊥) → words_of bs ≡ front_of Blank (past_of Nonblank bs) ∷ words_of (past_of Blank (past_of Nonblank bs))
-some_words bs h = step bs ∙ first_of_some (past_of Nonblank bs) h
+pub some_words : (bs : List ℕ) → (length (past_blanks bs) ≡ 0 → ⊥) → words_of bs ≡ front_of is_blank (past_blanks bs) ∷ words_of (past_of is_blank (past_blanks bs))
+some_words [] h = absurd (h refl)
+some_words (b ∷ bs) h = go (some_words bs) (is_blank b) refl h
+  where
+    go : ((length (past_blanks bs) ≡ 0 → ⊥) → words_of bs ≡ front_of is_blank (past_blanks bs) ∷ words_of (past_of is_blank (past_blanks bs)))
+        → (t : Bool) → is_blank b ≡ t
+        → (length (drop (cond (not (not t)) (1 + position_or_len (λ b. not (is_blank b)) bs) 0) (b ∷ bs)) ≡ 0 → ⊥)
+        → words_of (b ∷ bs)
+        ≡ front_of is_blank (drop (cond (not (not t)) (1 + position_or_len (λ b. not (is_blank b)) bs) 0) (b ∷ bs))
+        ∷ words_of (past_of is_blank (drop (cond (not (not t)) (1 + position_or_len (λ b. not (is_blank b)) bs) 0) (b ∷ bs)))
+    go k true e h =
+        let n = one_more (position_or_len (λ b. not (is_blank b)) bs) in
+        let f = ap (λ (n : ℕ). length (drop n (b ∷ bs))) n in
+        ap (λ (t : Bool). filter has_bytes (cond t ([] ∷ slice_split is_blank bs) (onto_first b (slice_split is_blank bs)))) e
+        ∙ k (λ z. h (f ∙ z))
+        ∙ ap (λ (n : ℕ). front_of is_blank (drop n (b ∷ bs)) ∷ words_of (past_of is_blank (drop n (b ∷ bs)))) (sym n)
+    go k false e h = begun b bs e

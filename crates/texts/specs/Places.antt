@@ -1,15 +1,12 @@
 -- Places and poses: numbers joined by commas. Assumes nothing.
-use Rattle.std.specs.Prelude.{ℕ, ◌+◌, cond, List, [], ◌∷◌, replicate, Ok, Err, Result, ◌==◌, nat_lt, slice_index_or, slice_set, Float}
-use Rattle.std.specs.Float.{nan}
-use Rattle.numbers.specs.Constants.{zero_f}
+use Rattle.std.specs.Prelude.{ℕ, List, [], ◌∷◌, take, Ok, Err, Result, Float}
+use Rattle.arrayvec.specs.ArrayVec.{ArrayVec}
 use Rattle.geometry.specs.declared.vector.Vector.{Vector}
-use Rattle.geometry.specs.declared.pose.Rotation.{Rotation}
 use Rattle.geometry.specs.declared.pose.Pose.{Pose}
 use Rattle.geometry.specs.Vectors.{vector}
 use Rattle.geometry.specs.Poses.{placed}
 use Rattle.texts.specs.declared.trouble.Trouble.{Trouble}
 use Rattle.texts.specs.declared.trouble.Trouble.TheVariants.{NotAPlace, NotAPose}
-use Rattle.texts.specs.declared.places.Joined.{Joined}
 use Rattle.texts.specs.Cuts.{parts_of}
 use Rattle.texts.specs.Reals.{number_of}
 
@@ -17,40 +14,28 @@ abbrev pub and_then : {A B E : Type 0} → Result A E → (A → Result B E) →
 and_then (Ok a) f = f a
 and_then (Err e) f = Err e
 
-abbrev pub no_numbers : Joined
-no_numbers = record { list = replicate 7 zero_f; count = 0 }
-
--- one more number; past seven only that there are more
-abbrev pub with_number : Joined → Float → Joined
-with_number s x =
-    cond (nat_lt s.count 7) (record { list = slice_set s.list s.count x; count = s.count + 1 })
-    (record { list = s.list; count = 8 })
-
 -- the trouble of the first part that is no number comes first
-abbrev pub numbers_of : Joined → List (List ℕ) → Result Joined Trouble
-numbers_of s [] = Ok s
-numbers_of s (w ∷ ws) = and_then (number_of w) (λ x. numbers_of (with_number s x) ws)
+abbrev pub numbers_of : List (List ℕ) → Result (List Float) Trouble
+numbers_of [] = Ok []
+numbers_of (w ∷ ws) = and_then (number_of w) (λ x. and_then (numbers_of ws) (λ xs. Ok (x ∷ xs)))
 
-abbrev pub number_at : Joined → ℕ → Float
-number_at s i = slice_index_or s.list i nan
+-- the first eight of them
+abbrev pub kept_of : List (List ℕ) → Result (ArrayVec Float) Trouble
+kept_of ws = and_then (numbers_of ws) (λ xs. Ok (record { items = take 8 xs }))
 
-abbrev pub three_of : Joined → Vector
-three_of s = vector (number_at s 0) (number_at s 1) (number_at s 2)
-
-abbrev pub four_of : Joined → Rotation
-four_of s = record { i = number_at s 3; j = number_at s 4; k = number_at s 5; w = number_at s 6 }
-
-abbrev pub place_from : Joined → Result Vector Trouble
-place_from s = cond (s.count == 3) (Ok (three_of s)) (Err NotAPlace)
+abbrev pub place_from : List Float → Result Vector Trouble
+place_from (x ∷ (y ∷ (z ∷ []))) = Ok (vector x y z)
+place_from _ = Err NotAPlace
 
 abbrev pub place_of : List ℕ → Result Vector Trouble
-place_of w = and_then (numbers_of no_numbers (parts_of 44 w)) place_from
+place_of w = and_then (numbers_of (parts_of 44 w)) place_from
 
 -- a place alone has no turn
-abbrev pub pose_from : Joined → Result Pose Trouble
-pose_from s =
-    cond (s.count == 3) (Ok (placed (three_of s)))
-    (cond (s.count == 7) (Ok (record { translation = three_of s; rotation = four_of s })) (Err NotAPose))
+abbrev pub pose_from : List Float → Result Pose Trouble
+pose_from (x ∷ (y ∷ (z ∷ []))) = Ok (placed (vector x y z))
+pose_from (x ∷ (y ∷ (z ∷ (i ∷ (j ∷ (k ∷ (w ∷ []))))))) =
+    Ok (record { translation = vector x y z; rotation = record { i = i; j = j; k = k; w = w } })
+pose_from _ = Err NotAPose
 
 abbrev pub pose_of : List ℕ → Result Pose Trouble
-pose_of w = and_then (numbers_of no_numbers (parts_of 44 w)) pose_from
+pose_of w = and_then (numbers_of (parts_of 44 w)) pose_from

@@ -3,7 +3,6 @@ use Rattle.std.specs.Prelude.{ℕ, ◌^◌, Bool, cond, ◌&&◌, ◌||◌, List
 use Rattle.std.specs.Float.{binary32}
 use Rattle.std.specs.Float.Ieee.{of_int, div, neg}
 use Rattle.std.specs.Str.{bytes_eq}
-use Rattle.texts.specs.declared.cuts.Until.TheVariants.{Mark}
 use Rattle.texts.specs.declared.trouble.Trouble.{Trouble}
 use Rattle.texts.specs.declared.trouble.Trouble.TheVariants.{NotANumber, TooManyDigits}
 use Rattle.texts.specs.Cuts.{front_of, past_of}
@@ -27,7 +26,7 @@ unsigned_from units tail =
 
 -- a decimal without a sign
 abbrev pub unsigned_of : List ℕ → Result Float Trouble
-unsigned_of bs = unsigned_from (front_of (Mark 46) bs) (past_of (Mark 46) bs)
+unsigned_of bs = unsigned_from (front_of (λ b. b == 46) bs) (past_of (λ b. b == 46) bs)
 
 -- the bits of a NaN are no number
 abbrev pub bits_from : Option ℕ → Result Float Trouble

@@ -1,9 +1,11 @@
 //! Where a text is cut.
-ghost use Rattle.std.specs.Prelude.{◌≡◌, take, drop};
-ghost use Rattle.texts.specs.Cuts.{is_blank, stops_at, reach_of, front_of, past_of};
+ghost use Rattle.std.specs.Prelude.{◌≡◌, ◌≤◌, length, drop};
+ghost use Rattle.std.specs.List.{position_or_len};
+ghost use Rattle.texts.specs.Cuts.{is_blank, stops_at, front_of, past_of};
 
 /// Up to where a text is read.
-#[derive(Clone, Copy)]
+// an enum, and no closure: a function that calls what it is handed asks its caller to show that it may
+#[derive(Clone, Copy, PartialEq, Eq, Debug)]
 pub enum Until {
     /// The first byte that is this one.
     Mark(u8),
@@ -16,63 +18,48 @@ pub enum Until {
 fn is_blank(b: u8) -> bool
     ensures { result ≡ is_blank b }
 {
-    b == b' ' || b == b'\t' || b == b'\r'
+    matches!(b, b' ' | b'\t' | b'\r')
 }
 
-fn stops(until: Until, b: u8) -> bool
-    ensures { result ≡ stops_at until b }
-{
-    match until {
-        Until::Mark(mark) => b == mark,
-        Until::Blank => is_blank(b),
-        Until::Nonblank => !is_blank(b),
+impl Until {
+    fn stops(self, b: u8) -> bool
+        ensures { result ≡ stops_at self b }
+    {
+        match self {
+            Until::Mark(mark) => b == mark,
+            Until::Blank => is_blank(b),
+            Until::Nonblank => !is_blank(b),
+        }
     }
 }
 
 /// How many bytes stand before the cut.
 fn reach(text: &[u8], until: Until) -> usize
-    ensures { result ≡ reach_of until text.now }
+    ensures value { result ≡ position_or_len (stops_at until) text.now }
+    ensures bound { result ≤ length text.now }
 {
-    for (i, b) in text.iter().enumerate() {
-        if stops(until, *b) {
-            return i;
-        }
-    }
-    text.len()
-}
-
-/// The first `count` bytes; all of them where there are fewer.
-pub(crate) fn head(text: &[u8], count: usize) -> &[u8]
-    ensures { result.now ≡ take count text.now }
-{
-    if count <= text.len() {
-        &text[0..count]
-    } else {
-        text
-    }
+    text.iter()
+        .position(|b| until.stops(*b))
+        .unwrap_or(text.len())
 }
 
 /// What follows the first `count` bytes.
 pub fn skip(text: &[u8], count: usize) -> &[u8]
     ensures { result.now ≡ drop count text.now }
 {
-    if count <= text.len() {
-        text.split_at(count).1
-    } else {
-        &text[0..0]
-    }
+    text.get(count..).unwrap_or_default()
 }
 
 /// What stands before the cut.
 pub fn front(text: &[u8], until: Until) -> &[u8]
-    ensures { result.now ≡ front_of until text.now }
+    ensures { result.now ≡ front_of (stops_at until) text.now }
 {
-    head(text, reach(text, until))
+    &text[..reach(text, until)]
 }
 
 /// The text from the cut on; empty where there is none.
 pub fn past(text: &[u8], until: Until) -> &[u8]
-    ensures { result.now ≡ past_of until text.now }
+    ensures { result.now ≡ past_of (stops_at until) text.now }
 {
-    skip(text, reach(text, until))
+    &text[reach(text, until)..]
 }

@@ -1,91 +1,68 @@
 //! Whole numbers by their digits.
-ghost use Rattle.std.specs.Prelude.{◌≡◌, ◌≤◌, nat_lt};
-ghost use Rattle.texts.specs.Digits.{digit_of, all_digits, spelled, value_of, capped, small_of, whole_of, shape_of};
+ghost use Rattle.std.specs.Prelude.{◌≡◌, ◌≤◌, IfSome};
+ghost use Rattle.texts.specs.Digits.{radix_of, digit_of, read_digits, whole_of, shape_of};
 
 use crate::trouble::Trouble;
 
 /// Where values stop: what is above is not told apart.
 const CAP: u64 = 4_294_967_296;
 
-/// The value of a digit, in either case; 16 of what is none.
-fn digit(b: u8) -> u64
-    ensures value { result ≡ digit_of b }
-    ensures bound { result ≤ 16 }
-{
-    match b {
-        b'0'..=b'9' => u64::from(b - b'0'),
-        b'a'..=b'f' => u64::from(b - b'a') + 10,
-        b'A'..=b'F' => u64::from(b - b'A') + 10,
-        _ => 16,
-    }
+/// The base that digits are read in.
+#[derive(Clone, Copy, PartialEq, Eq, Debug)]
+pub enum Base {
+    Decimal,
+    Hexadecimal,
 }
 
-fn is_digit(b: u8, base: u64) -> bool
-    ensures { result ≡ nat_lt (digit_of b) base }
-{
-    digit(b) < base
-}
-
-fn all_digits(text: &[u8], base: u64) -> bool
-    ensures { result ≡ all_digits base text.now }
-{
-    for b in text {
-        if !is_digit(*b, base) {
-            return false;
+impl Base {
+    fn radix(self) -> u32
+        ensures value { result ≡ radix_of self }
+        ensures low { 10 ≤ result }
+        ensures high { result ≤ 16 }
+    {
+        match self {
+            Base::Decimal => 10,
+            Base::Hexadecimal => 16,
         }
     }
-    true
 }
 
-/// Whether the text is one or more digits.
-pub(crate) fn is_spelled(text: &[u8], base: u64) -> bool
-    ensures { result ≡ spelled base text.now }
+/// The value of a digit of the base, in either case.
+fn digit(b: u8, base: Base) -> Option<u64>
+    ensures value { result ≡ digit_of (radix_of base) b }
+    ensures bound { IfSome result (λ d. d ≤ 15) }
 {
-    0 < text.len() && all_digits(text, base)
+    char::from(b).to_digit(base.radix()).map(u64::from)
 }
 
-/// The value of the digits that go on from `start`.
-pub(crate) fn value(text: &[u8], base: u64, start: u64) -> u64
-    requires { (base ≤ 16) × (start ≤ 4294967296) }
-    ensures value { result ≡ capped (value_of base start text.now) }
-    ensures bound { result ≤ 4294967296 }
+/// The value of the digits that go on from `start`, up to the cap; none where a byte is no digit.
+pub(crate) fn value(text: &[u8], base: Base, start: u64) -> Option<u64>
+    requires { start ≤ 4294967296 }
+    ensures value { result ≡ read_digits (radix_of base) start text.now }
+    ensures bound { IfSome result (λ n. n ≤ 4294967296) }
 {
     let mut sum = start;
     for b in text {
-        sum = (sum * base + digit(*b)).min(CAP);
+        let digit = digit(*b, base)?;
+        sum = (sum * u64::from(base.radix()) + digit).min(CAP);
     }
-    sum
-}
-
-/// The value, where it has at most 32 bits.
-fn small(value: u64) -> Option<u32>
-    ensures { result ≡ small_of value }
-{
-    if value <= 4_294_967_295 {
-        Some(value as u32)
-    } else {
-        None
-    }
+    Some(sum)
 }
 
 /// The value of 1 to `most` digits, where it has at most 32 bits.
-pub(crate) fn whole(text: &[u8], base: u64, most: usize) -> Option<u32>
-    requires { base ≤ 16 }
-    ensures { result ≡ whole_of base most text.now }
+pub(crate) fn whole(text: &[u8], base: Base, most: usize) -> Option<u32>
+    ensures { result ≡ whole_of (radix_of base) most text.now }
 {
-    if is_spelled(text, base) && text.len() <= most {
-        small(value(text, base, 0))
-    } else {
-        None
+    if text.is_empty() || most < text.len() {
+        return None;
     }
+    let value = value(text, base, 0)?;
+    u32::try_from(value).ok()
 }
 
 /// A shape number: 1 to 10 decimal digits, at most 4,294,967,295.
 pub fn shape(text: &[u8]) -> Result<u32, Trouble>
     ensures { result ≡ shape_of text.now }
 {
-    match whole(text, 10, 10) {
-        Some(shape) => Ok(shape),
-        None => Err(Trouble::NotAShape),
-    }
+    whole(text, Base::Decimal, 10).ok_or(Trouble::NotAShape)
 }

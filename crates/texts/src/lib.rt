@@ -14,4 +14,4 @@ pub use digits::shape;
 pub use places::{place, pose};
 pub use reals::number;
 pub use trouble::Trouble;
-pub use words::{from_word, spells, word_at};
+pub use words::{Words, word_at};

@@ -2,13 +2,12 @@
 ghost use Rattle.std.specs.Prelude.{◌≡◌, ◌^◌, ◌≤◌, ◌++◌, pos};
 ghost use Rattle.std.specs.Float.Ieee.{of_int};
 ghost use Rattle.std.specs.Float.{binary32};
-ghost use Rattle.texts.specs.Digits.{value_of, capped};
-ghost use Rattle.texts.specs.Reals.{quotient_of, is_decimal, unsigned_of, bits_of, number_of};
+ghost use Rattle.texts.specs.Digits.{read_digits};
+ghost use Rattle.texts.specs.Reals.{quotient_of, unsigned_of, bits_of, number_of};
 
-use crate::cuts::{Until, front, head, past, skip};
-use crate::digits::{is_spelled, value, whole};
+use crate::cuts::{Until, front, past, skip};
+use crate::digits::{Base, value, whole};
 use crate::trouble::Trouble;
-use crate::words::spells;
 use std::num::{f32_from_bits_with_nan, nearest_u32_to_f32};
 
 /// The point of a decimal.
@@ -47,18 +46,11 @@ fn quotient(digits: u64, places: usize) -> Result<f32, Trouble>
     }
 }
 
-/// Whether there are digits before the point and, where there is a point, after it.
-fn is_decimal(units: &[u8], tail: &[u8]) -> bool
-    ensures { result ≡ is_decimal units.now tail.now }
+/// The value of all digits together; none where a byte is no digit.
+fn digits(units: &[u8], fraction: &[u8]) -> Option<u64>
+    ensures { result ≡ read_digits 10 0 (units.now ++ fraction.now) }
 {
-    is_spelled(units, 10) && (tail.is_empty() || is_spelled(skip(tail, 1), 10))
-}
-
-/// The value of all digits together.
-fn digits(units: &[u8], fraction: &[u8]) -> u64
-    ensures { result ≡ capped (value_of 10 0 (units.now ++ fraction.now)) }
-{
-    value(fraction, 10, value(units, 10, 0))
+    value(fraction, Base::Decimal, value(units, Base::Decimal, 0)?)
 }
 
 /// A decimal without a sign.
@@ -67,28 +59,25 @@ fn unsigned(text: &[u8]) -> Result<f32, Trouble>
 {
     let units = front(text, POINT);
     let tail = past(text, POINT);
-    let fraction = skip(tail, 1);
-    if is_decimal(units, tail) {
-        quotient(digits(units, fraction), fraction.len())
-    } else {
-        Err(Trouble::NotANumber)
+    // digits stand before the point and, where there is a point, after it
+    if units.is_empty() || tail.len() == 1 {
+        return Err(Trouble::NotANumber);
     }
+    let fraction = skip(tail, 1);
+    let digits = digits(units, fraction).ok_or(Trouble::NotANumber)?;
+    quotient(digits, fraction.len())
 }
 
 /// The number with the given bits, 1 to 8 hexadecimal digits.
 fn bits(text: &[u8]) -> Result<f32, Trouble>
     ensures { result ≡ bits_of text.now }
 {
-    match whole(text, 16, 8) {
-        Some(bits) => {
-            let number = f32_from_bits_with_nan(bits);
-            if number.is_nan() {
-                Err(Trouble::NotANumber)
-            } else {
-                Ok(number)
-            }
-        }
-        None => Err(Trouble::NotANumber),
+    let bits = whole(text, Base::Hexadecimal, 8).ok_or(Trouble::NotANumber)?;
+    let number = f32_from_bits_with_nan(bits);
+    if number.is_nan() {
+        Err(Trouble::NotANumber)
+    } else {
+        Ok(number)
     }
 }
 
@@ -96,10 +85,10 @@ fn bits(text: &[u8]) -> Result<f32, Trouble>
 pub fn number(text: &[u8]) -> Result<f32, Trouble>
     ensures { result ≡ number_of text.now }
 {
-    if spells(head(text, 2), b"0x") {
-        bits(skip(text, 2))
-    } else if spells(head(text, 1), b"-") {
-        let size = unsigned(skip(text, 1))?;
+    if let Some(digits) = text.strip_prefix(b"0x") {
+        bits(digits)
+    } else if let Some(decimal) = text.strip_prefix(b"-") {
+        let size = unsigned(decimal)?;
         Ok(-size)
     } else {
         unsigned(text)

@@ -90,6 +90,6 @@ fn handles_of_two_generations_differ(rt: HostRuntime) {
         slot: 3,
         generation: 1,
     };
-    assert!(rt; old.is(old));
-    assert!(rt; !old.is(new));
+    assert!(rt; old == old);
+    assert!(rt; old != new);
 }

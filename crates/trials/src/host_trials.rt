@@ -1,5 +1,5 @@
 //! Both hosts under caps, and what they say of unknown shapes.
-use casts::{Flight, Report, cast_flight};
+use casts::{Casts, Flight, cast_flight};
 use geometry::{Aabb, Pose, ShapeKind, Vector};
 use hosts::{CastQuery, Child, Host, Sweep};
 use outcomes::{CastOutcome, PairKind};
@@ -25,14 +25,6 @@ fn toward(x: f32) -> CastQuery {
     }
 }
 
-fn is_hit(outcome: CastOutcome, fraction: f32) -> bool {
-    outcome.number() == 0 && outcome.fraction() == fraction
-}
-
-fn is_separated(outcome: CastOutcome, fraction: f32) -> bool {
-    outcome.number() == 3 && outcome.fraction() == fraction
-}
-
 #[test]
 fn a_slide_cast_is_separated_at_a_lower_cap(rt: HostRuntime) {
     let shapes = [Shape::Cuboid(Vector::splat(0.5))];
@@ -40,9 +32,9 @@ fn a_slide_cast_is_separated_at_a_lower_cap(rt: HostRuntime) {
         shapes: &shapes,
         children: &[],
     };
-    assert!(rt; is_hit(host.proxy_cast(toward(4.5), 1.0), 0.4375));
-    assert!(rt; is_hit(host.proxy_cast(toward(4.5), 0.4375), 0.4375));
-    assert!(rt; is_separated(host.proxy_cast(toward(4.5), 0.25), 0.25));
+    assert!(rt; host.proxy_cast(toward(4.5), 1.0) == CastOutcome::Hit(0.4375));
+    assert!(rt; host.proxy_cast(toward(4.5), 0.4375) == CastOutcome::Hit(0.4375));
+    assert!(rt; host.proxy_cast(toward(4.5), 0.25) == CastOutcome::Separated(0.25));
     assert!(rt;
         host.composite_cast(toward(4.5), PairKind::Solid, 1.0)
             .is_none()
@@ -53,9 +45,9 @@ fn a_slide_cast_is_separated_at_a_lower_cap(rt: HostRuntime) {
 fn a_compound_out_of_range_is_unknown(rt: HostRuntime) {
     let shapes = [
         Shape::Cuboid(Vector::splat(0.5)),
-        Shape::Group(0, 1),
-        Shape::Group(0, 2),
-        Shape::Group(0, 0),
+        Shape::Group { first: 0, count: 1 },
+        Shape::Group { first: 0, count: 2 },
+        Shape::Group { first: 0, count: 0 },
     ];
     let children = [
         Child {
@@ -72,14 +64,14 @@ fn a_compound_out_of_range_is_unknown(rt: HostRuntime) {
         children: &children,
     };
     assert!(rt; host.children(1).len() == 1);
-    assert!(rt; host.children(2).len() == 0);
+    assert!(rt; host.children(2).is_empty());
     assert!(rt; host.kind(1).is_some());
     assert!(rt; host.kind(2).is_none());
     assert!(rt; host.kind(3).is_none());
     assert!(rt; host.kind(4).is_none());
     assert!(rt; host.aabb(1, at(4.0)).maxs.x == 5.5);
-    assert!(rt; host.overlap(at(0.75), 0, 1).number() == 0);
-    assert!(rt; host.overlap(at(-0.25), 0, 1).number() == 1);
+    assert!(rt; host.overlap(at(0.75), 0, 1) == Ok(false));
+    assert!(rt; host.overlap(at(-0.25), 0, 1) == Ok(true));
 }
 
 #[test]
@@ -102,15 +94,18 @@ fn a_recorded_row_is_taken_up_to_its_fraction(rt: HostRuntime) {
         children: &[],
         rows: &rows,
     };
-    assert!(rt; is_separated(host.proxy_cast(toward(4.5), 1.0), 0.25));
-    assert!(rt; is_separated(host.proxy_cast(toward(4.5), 0.125), 0.125));
-    assert!(rt; host.overlap(at(0.0), 0, 0).number() == 1);
-    assert!(rt; host.overlap(at(0.0), 0, 1).number() == 0);
+    assert!(rt; host.proxy_cast(toward(4.5), 1.0) == CastOutcome::Separated(0.25));
+    assert!(rt; host.proxy_cast(toward(4.5), 0.125) == CastOutcome::Separated(0.125));
+    assert!(rt; host.overlap(at(0.0), 0, 0) == Ok(true));
+    assert!(rt; host.overlap(at(0.0), 0, 1) == Ok(false));
 }
 
 #[test]
 fn a_flight_stops_at_its_nearest_piece(rt: HostRuntime) -> Result<(), Fail> {
-    let shapes = [Shape::Cuboid(Vector::splat(0.5)), Shape::Group(0, 2)];
+    let shapes = [
+        Shape::Cuboid(Vector::splat(0.5)),
+        Shape::Group { first: 0, count: 2 },
+    ];
     let children = [
         Child {
             pose: at(-1.0),
@@ -133,12 +128,13 @@ fn a_flight_stops_at_its_nearest_piece(rt: HostRuntime) -> Result<(), Fail> {
         pose: at(6.0),
         pair: PairKind::Solid,
     };
-    match cast_flight(&host, flight) {
-        Ok(Report { count, stands, .. }) => {
-            assert!(rt; count == 2);
-            assert!(rt; stands.translation.x == 4.0);
-            Ok(())
-        }
-        Err(_) => Err(Fail::new("refused")),
-    }
+    let Ok(report) = cast_flight(&host, flight) else {
+        return Err(Fail::new("refused"));
+    };
+    let Casts::Pieces(outcomes) = &report.casts else {
+        return Err(Fail::new("not cast piece by piece"));
+    };
+    assert!(rt; outcomes.len() == 2);
+    assert!(rt; report.stands.translation.x == 4.0);
+    Ok(())
 }

@@ -1,13 +1,10 @@
-use Rattle.std.proofs.lemmas.Bool.Decides.{Decides-at}
+use Rattle.std.proofs.Common.{rules}
 use Rattle.slots.specs.Store.{state}
-use Rattle.slots.specs.Rules.{orderly}
-use Rattle.slots.proofs.Decided.{orderly_decides}
+use Rattle.slots.proofs.Decided.{decided}
 use Rattle.slots.proofs.valid.Goals as goal
 
-pub returns : goal.returns
-returns g c =
-    let st = state c.args.header.now c.args.slots.now in
-    record {
-      value = c.obeys.ensures;
-      decides = Decides-at c.obeys.result (orderly st) c.obeys.ensures (orderly_decides st);
-    }
+pub returns-then-laid_out-clause-decides : goal.returns-then-laid_out-clause-decides
+returns-then-laid_out-clause-decides g c = decided (state c.args.header.now c.args.slots.now) _ (search rules)
+
+pub returns-else-laid_out-clause-decides : goal.returns-else-laid_out-clause-decides
+returns-else-laid_out-clause-decides g c = decided (state c.args.header.now c.args.slots.now) _ (search rules)

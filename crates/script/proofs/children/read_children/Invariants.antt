@@ -1,10 +1,7 @@
-use Rattle.std.proofs.Common.{◌≡◌, ◌-◌}
-use Rattle.texts.specs.Words.{words_of}
-use Rattle.script.specs.Parts.{no_children, children_of}
+use Rattle.std.proofs.Common.{◌≡◌, []}
+use Rattle.texts.specs.WordsLeft.{words_left}
+use Rattle.script.specs.Parts.{children_of}
 use Rattle.script.proofs.children.read_children.Given as goal
 
-abbrev pub invariant-loop-words : goal.invariant-loop-words
-invariant-loop-words l = children_of l.children (words_of l.rest) ≡ children_of no_children (words_of l.text)
-
-abbrev pub decreases-loop-words : goal.decreases-loop-words
-decreases-loop-words l = 16 - l.children.count
+abbrev pub invariant-loop-word : goal.invariant-loop-word
+invariant-loop-word l = children_of l.children.items (words_left l.word-iterator) ≡ children_of [] (words_left l.fn.words)

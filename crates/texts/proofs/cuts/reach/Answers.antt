@@ -1,28 +1,25 @@
-use Rattle.std.proofs.Common.{◌≡◌, ℕ, suc, ◌+◌, ◌<◌, Bool, true, false, cond, List, length, get_or, drop, sym, ap, ◌∙◌, arith}
-use Rattle.std.proofs.lemmas.List.{at_drop_more, at_drop_all}
-use Rattle.texts.specs.declared.cuts.Until.{Until}
-use Rattle.texts.specs.Cuts.{reach_of, stops_at}
+use Rattle.std.proofs.Common.{◌≡◌, ◌≤◌, ℕ, Bool, true, false, not, cond, length, ltb, ltb-false, Some, None, Option, ap, ◌∙◌, refl, rules, arith}
+use Rattle.std.specs.List.{position_or_len}
+use Rattle.std.specs.Option.{unwrap_or}
+use Rattle.std.proofs.lemmas.Iterator.{YieldsList-from_slice}
+use Rattle.std.proofs.lemmas.Iterator.Search.{position_from_yields_List}
+use Rattle.std.proofs.lemmas.List.Sums.{prefix_len-le-length}
+use Rattle.texts.specs.Cuts.{stops_at}
 use Rattle.texts.proofs.cuts.reach.Goals as goal
 
--- how far it is from the turn at i on, by whether the byte there stops
-turn : (u : Until) (xs : List ℕ) (i : ℕ) (b : Bool) → i < length xs → b ≡ stops_at u (get_or xs i 0)
-    → reach_of u (drop i xs) ≡ cond b 0 (suc (reach_of u (drop (i + 1) xs)))
-turn u xs i b h e = at_drop_more (reach_of u) xs i 0 h ∙ ap (λ (t : Bool). cond t 0 (suc (reach_of u (drop (i + 1) xs)))) (sym e)
+-- the place that was found, or else the length
+or_length : (o : Option ℕ) (r n m : ℕ) → r ≡ unwrap_or o m → o ≡ cond (ltb n m) (Some n) None → n ≤ m → r ≡ n
+or_length o r n m h e le = h ∙ ap (λ (p : Option ℕ). unwrap_or p m) e ∙ go (ltb n m) refl
+  where
+    go : (t : Bool) → ltb n m ≡ t → unwrap_or (cond t (Some n) None) m ≡ n
+    go true e = refl
+    go false e = let k = ltb-false n m e in omega arith
 
-pub returns-then-stops : goal.returns-then-stops
-returns-then-stops c =
-    let e : reach_of c.args.until (drop c.loop-i.i c.args.text.now) ≡ 0 =
-    turn c.args.until c.args.text.now c.loop-i.i true c.loop-i-test.true c.if-stops.ensures in
-    omega (arith, c.loop-i.invariant)
-
-pub loop-i-preserved : goal.loop-i-preserved
-loop-i-preserved c =
-    let e : reach_of c.args.until (drop c.loop-i.i c.args.text.now) ≡ suc (reach_of c.args.until (drop (c.loop-i.i + 1) c.args.text.now)) =
-    turn c.args.until c.args.text.now c.loop-i.i false c.loop-i-test.true c.if-stops.ensures in
-    omega (arith, c.loop-i.invariant)
-
-pub returns : goal.returns
-returns c =
-    let e : reach_of c.args.until (drop c.loop-i.i c.args.text.now) ≡ 0 =
-    at_drop_all (reach_of c.args.until) c.args.text.now c.loop-i.i c.loop-i-test.false in
-    omega (arith, c.loop-i.invariant)
+pub returns-clause-value : goal.returns-clause-value
+returns-clause-value c =
+    let p = stops_at c.args.until in
+    let xs = c.args.text.now in
+    or_length c.position.result c.unwrap_or.result (position_or_len p xs) (length xs) c.unwrap_or.ensures
+    (position_from_yields_List p _ _ c.position.result c.position.ensures.ran (YieldsList-from_slice xs c.iter.ensures.rest)
+    (λ x b q k. search rules))
+    (prefix_len-le-length (λ x. not (p x)) xs)

@@ -1,11 +1,13 @@
-use Rattle.std.proofs.Common.{◌≡◌, ℕ, ◌-◌, min, not, List, length, take, ap, ◌∙◌, arith}
-use Rattle.finders.specs.declared.barred_pairs.BarredPair.{BarredPair}
-use Rattle.finders.specs.Filters.{barred_in}
-use Rattle.finders.proofs.Blanks.{take_min}
+use Rattle.std.proofs.Common.{Bool, not, ap, rules, tests}
+use Rattle.std.proofs.lemmas.Iterator.{YieldsList-from_slice, YieldsList-from_take}
+use Rattle.std.proofs.lemmas.Iterator.Consumers.{YieldsList-at}
+use Rattle.std.proofs.lemmas.Iterator.Search.{any_from_yields_List}
+use Rattle.finders.specs.Filters.{bars}
 use Rattle.finders.proofs.barred_pairs.BarredPairsFilter.keep.Goals as goal
 
 pub returns : goal.returns
 returns c =
-    let xs = c.args.self.now.pairs.now in
-    let e : c.counted-count.result - 0 ≡ min (length xs) 64 = omega (arith, c.counted-count.ensures) in
-    ap not (c.is_barred.ensures ∙ ap (λ (l : List BarredPair). barred_in l c.args.first c.args.second) (ap (λ (n : ℕ). take n xs) e ∙ take_min 64 xs))
+    let say : Bool → Bool = not in
+    ap say
+    (any_from_yields_List (λ x. bars x c.args.first c.args.second) _ _ _ c.any.ensures.ran (YieldsList-from_take 64 (YieldsList-at c.take.ensures.source (YieldsList-from_slice c.args.self.now.pairs.now cc)) c.take.ensures.count)
+    (λ x b q k. search (rules, tests)))
