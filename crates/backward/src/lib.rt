@@ -6,7 +6,7 @@ ghost use Rattle.finders.specs.Tables.{table_meaning, offered};
 ghost use Rattle.backward.specs.Downward.{downward};
 ghost use Rattle.backward.specs.DownwardLaws.{downward_lists};
 
-use finders::{AnySize, Order, SlotTable, Table, offer};
+use finders::{AnySize, Order, SlotTable, Table, offer_to};
 use geometry::{Aabb, ColliderHandle};
 use spaces::Space;
 
@@ -22,7 +22,7 @@ impl Order for Downward {
     #[tactic(auto, using(crate::proofs::Rows::downward_push))]
     fn offer_all(table: &SlotTable, aabb: Aabb, p: f32, space: &mut Space<ColliderHandle>) {
         for (slot, entry) in table.held().iter().enumerate().rev() {
-            offer(slot as u32, *entry, aabb, p, space);
+            offer_to(slot as u32, *entry, aabb, p, space);
         }
     }
 }

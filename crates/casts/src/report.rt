@@ -3,17 +3,17 @@ ghost use Rattle.std.specs.Prelude.{◌≡◌, fold, None};
 ghost use Rattle.strokes.specs.Strokes.{sooner_of};
 ghost use Rattle.casts.specs.Reports.{took_of, impact_of};
 
-use arrayvec::ArrayVec;
 use geometry::Pose;
 use hosts::children::MOST_CHILDREN;
 use outcomes::{CastOutcome, PairKind, TurningOutcome, turning_impact};
+use short_lists::ShortList;
 use strokes::sooner;
 
 /// One cast of each piece, in order.
-pub type PieceCasts = ArrayVec<Option<CastOutcome>, MOST_CHILDREN>;
+pub type PieceCasts = ShortList<Option<CastOutcome>, MOST_CHILDREN>;
 
 /// The casts of a flight.
-#[derive(Drop)]
+#[derive(Clone, Copy)]
 pub enum Casts {
     /// The fast shape is never swept.
     NeverSwept,
@@ -24,7 +24,7 @@ pub enum Casts {
 }
 
 /// The casts of a flight, the pair's impact, and where the fast shape then stands.
-#[derive(Drop)]
+#[derive(Clone, Copy)]
 pub struct Report {
     pub casts: Casts,
     pub impact: Option<f32>,

@@ -8,10 +8,10 @@ use crate::flight::{Flight, check_flight};
 use crate::pieces::{TargetKind, cast_sub_shape, child_sweep, is_piece, is_swept, target_kind};
 use crate::refusal::CastRefusal;
 use crate::report::{Casts, PieceCasts, Report};
-use arrayvec::ArrayVec;
 use geometry::{Pose, ShapeKind};
 use hosts::{Child, Host, Sweep};
 use outcomes::{CastOutcome, PairKind, TurningOutcome};
+use short_lists::ShortList;
 
 /// A flight, the host that answers for it, and how its target takes casts.
 #[derive(Drop)]
@@ -44,7 +44,7 @@ impl<H: Host> Check<'_, H> {
         ensures { let h = H.answers self.now.host.now in
             result.items ≡ casts_of_pieces h self.now.flight self.now.target (child_pieces h (sweep_of self.now.flight) (h.children self.now.flight.fast)) }
     {
-        let mut casts = ArrayVec::new();
+        let mut casts = ShortList::new();
         // a `for`: `extend` of a chain answers an error, which cannot come here
         for child in self.host.children(self.flight.fast) {
             if is_piece(self.host, child.shape) {
@@ -58,7 +58,7 @@ impl<H: Host> Check<'_, H> {
     fn cast_whole(&self) -> PieceCasts
         ensures { result.items ≡ piece_cast (H.answers self.now.host.now) self.now.flight self.now.target self.now.flight.fast (sweep_of self.now.flight) ∷ [] }
     {
-        let mut casts = ArrayVec::new();
+        let mut casts = ShortList::new();
         casts.push(self.cast_piece(self.flight.fast, self.flight.sweep()));
         casts
     }

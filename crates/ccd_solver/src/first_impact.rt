@@ -74,7 +74,7 @@ fn below_dt(time: f32, dt: f32) -> f32
 pub fn impact_time(fraction: f32, dt: f32) -> Option<f32>
     ensures { result ≡ time_at fraction dt }
 {
-    (fraction < 1.0 && 0.0 < dt).then_some(below_dt(fraction * dt, dt))
+    (fraction < 1.0 && 0.0 < dt).then(|| below_dt(fraction * dt, dt))
 }
 
 /// The first time at which an active marked body meets something solid on its way to its next position. It lies from 0 to below dt.

@@ -55,12 +55,16 @@ impl<'a, H: Host> EndOfStep<'a, H> {
     pub fn is_crossing(&self, fraction: f32, hit: PseudoHit) -> bool
         ensures { result ≡ crosses (H.answers self.now.host.now) self.now.bodies.now self.now.colliders.now fraction hit }
     {
+        // tested first: most hits that are none need no look at the colliders
+        if !(hit.fraction < fraction) {
+            return false;
+        }
         let (Some(first), Some(second)) = (
             get(self.colliders, hit.first.0),
             get(self.colliders, hit.second.0),
         ) else {
             return false;
         };
-        hit.fraction < fraction && self.pass_each_other(first, second)
+        self.pass_each_other(first, second)
     }
 }

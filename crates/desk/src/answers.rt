@@ -12,7 +12,7 @@ use slide::Slide;
 use std::alloc::AllocError;
 
 /// What a line of a hall script is answered.
-#[derive(Drop)]
+#[derive(Clone, Copy)]
 pub enum Answer {
     /// Nothing to say: the line listed something, or was empty.
     Silent,

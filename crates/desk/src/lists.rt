@@ -1,9 +1,10 @@
 //! What a hall lists.
 ghost use Rattle.std.specs.Prelude.{◌≡◌, ◌++◌, length, IfOk, OnOk, OnErr};
-ghost use Rattle.desk.specs.Desks.{empty_desk, hosted, box_listed, compound_listed, shape_listed, row_listed};
+ghost use Rattle.desk.specs.Desks.{named, empty_desk, hosted, box_listed, compound_listed, shape_listed, row_listed};
 
 use geometry::{Aabb, ShapeKind, Vector};
 use hosts::Child;
+use hosts::children::MOST_CHILDREN;
 use recorded::{Listed, Row};
 use script::{Children, HostChoice};
 use slide::Shape;
@@ -13,11 +14,11 @@ use std::marker::Model;
 /// The shapes, children and rows of a hall, and which host answers for them.
 #[derive(Drop)]
 pub struct Desk {
-    pub(crate) host: HostChoice,
-    pub(crate) shapes: Vec<Shape>,
-    pub(crate) listed: Vec<Listed>,
-    pub(crate) children: Vec<Child>,
-    pub(crate) rows: Vec<Row>,
+    pub host: HostChoice,
+    pub shapes: Vec<Shape>,
+    pub listed: Vec<Listed>,
+    pub children: Vec<Child>,
+    pub rows: Vec<Row>,
 }
 
 impl Model for Desk {
@@ -29,15 +30,16 @@ impl Model for Desk {
     ghost view = { λ d. record { host = d.host; shapes = vec_items d.shapes; listed = vec_items d.listed; children = vec_items d.children; rows = vec_items d.rows } };
 }
 
-/// Puts the children of a Compound at the end of the list, and says which part of it they are: its first place and its length.
-fn keep(list: &mut Vec<Child>, children: &Children) -> Result<(u32, u32), AllocError>
-    ensures part { IfOk result (λ part. part ≡ (length list.old.items, length children.now.items)) }
-    ensures ok { OnOk result (list.new.items ≡ list.old.items ++ children.now.items) }
+/// Puts the children of a Compound at the end of the list, and says where they begin.
+fn keep(list: &mut Vec<Child>, children: &Children) -> Result<u32, AllocError>
+    ensures first { IfOk result (λ first. first ≡ length list.old.items) }
+    ensures ok { OnOk result (list.new.items ≡ list.old.items ++ named children.now) }
     ensures err { OnErr result (list.new.items ≡ list.old.items) }
 {
     let first = u32::try_from(list.len()).map_err(|_| AllocError)?;
-    list.extend_from_slice(children.as_slice())?;
-    Ok((first, children.len() as u32))
+    let count = (children.count as usize).min(MOST_CHILDREN);
+    list.extend_from_slice(&children.list[..count])?;
+    Ok(first)
 }
 
 impl Desk {
@@ -83,11 +85,12 @@ impl Desk {
 
     /// Lists a Compound of the slide host, with its children.
     pub fn list_compound(&mut self, children: &Children) -> Result<(), AllocError>
-        ensures ok { OnOk result (self.new ≡ compound_listed self.old children.now.items) }
+        ensures ok { OnOk result (self.new ≡ compound_listed self.old children.now) }
         ensures err { OnErr result (self.new ≡ self.old) }
     {
         self.shapes.reserve(1)?;
-        let (first, count) = keep(&mut self.children, children)?;
+        let first = keep(&mut self.children, children)?;
+        let count = children.count;
         self.shapes.push(Shape::Group { first, count }).unwrap();
         Ok(())
     }
@@ -99,16 +102,16 @@ impl Desk {
         aabb: Aabb,
         children: &Children,
     ) -> Result<(), AllocError>
-        ensures ok { OnOk result (self.new ≡ shape_listed self.old kind aabb children.now.items) }
+        ensures ok { OnOk result (self.new ≡ shape_listed self.old kind aabb children.now) }
         ensures err { OnErr result (self.new ≡ self.old) }
     {
         self.listed.reserve(1)?;
-        let (first, count) = keep(&mut self.children, children)?;
+        let first = keep(&mut self.children, children)?;
         let shape = Listed {
             kind,
             aabb,
             first,
-            count,
+            count: children.count,
         };
         self.listed.push(shape).unwrap();
         Ok(())

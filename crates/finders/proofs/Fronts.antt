@@ -1,7 +1,8 @@
 -- What was written to a space that is lent stands in front, as far as there was room, and the rest is as it was. Assumes nothing.
-use Rattle.std.proofs.Common.{◌≡◌, min, List, [], ◌∷◌, ◌++◌, length, take, drop, sym, refl, subst, append_assoc, append-nil, arith}
+use Rattle.std.proofs.Common.{◌≡◌, ℕ, ◌≤◌, min, List, [], ◌∷◌, ◌++◌, length, take, drop, sym, refl, ◌∙◌, subst, append_assoc, append-nil, arith}
 use Rattle.std.specs.List.{fold}
 use Rattle.std.proofs.lemmas.Grind.{common_steps}
+use Rattle.std.proofs.lemmas.List.{take_all}
 use Rattle.spaces.specs.Spaces.{Written, with, nothing_in}
 
 module _ {X : Type 0} (old : List X) where
@@ -23,3 +24,7 @@ module _ {X : Type 0} (old : List X) where
 
   pub reported : (cs : List X) → Reported cs (fold with (nothing_in old) cs)
   reported cs = reported_more [] cs (nothing_in old) (record { long = refl; count = omega arith; front = refl; rest = refl })
+
+-- with room for all, the front of the space is the report
+pub all_reported : {X : Type 0} (cs out : List X) (room r : ℕ) → length cs ≤ room → r ≡ min (length cs) room → take r out ≡ take r cs → take r out ≡ cs
+all_reported cs out room r l e f = f ∙ take_all r cs (omega arith)

@@ -11,8 +11,9 @@ use Rattle.geometry.specs.declared.aabb.Aabb.{Aabb}
 use Rattle.geometry.specs.declared.vector.Vector.{Vector}
 use Rattle.finders.specs.declared.entry.Entry.{Entry}
 use Rattle.finders.specs.declared.finder_fault.FinderFault.{FinderFault}
+use Rattle.finders.specs.declared.slot_table.SlotTable.{SlotTable}
 use Rattle.finders.specs.Finders.{Held, Meaning, slot_of, entry_at, held_count, takes, set_in}
-use Rattle.finders.specs.Tables.{count_with}
+use Rattle.finders.specs.Tables.{table_meaning, count_with}
 
 -- the front of a row of blanks
 pub take_blanks : {X : Type 0} (m n : ℕ) (x : X) → take m (replicate n x) ≡ replicate (min m n) x
@@ -49,3 +50,8 @@ count_free h i l f =
 
 pub takes_all : (m : Meaning) (c : ColliderHandle) → length m.held ≡ m.capacity → slot_of c < m.capacity → takes m c ≡ true
 takes_all m c e l = grind (arith, count_free)
+
+-- ---- a table
+
+pub table_count : (t : SlotTable) → t.count ≤ 1024
+table_count t = omega (arith, count_by-le-length is_some (table_meaning t).held)

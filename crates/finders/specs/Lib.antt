@@ -5,3 +5,4 @@ pub mod Tables
 pub mod TableLaws
 pub mod Filters
 pub mod FilterLaws
+pub mod Faults

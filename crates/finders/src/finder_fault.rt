@@ -12,6 +12,11 @@ pub enum FinderFault {
 }
 
 impl fmt::Display for FinderFault {
+    ghost use Rattle.std.specs.Prelude.{Some};
+    ghost use Rattle.finders.specs.Faults.{fault_text};
+
+    ghost output = { λ fault. Some (fault_text fault) };
+
     fn fmt<W: fmt::Write>(&self, f: &mut fmt::Formatter<W>) -> fmt::Result {
         f.write_str(match self {
             FinderFault::PastTheLastSlot => "the finder has no such slot",

@@ -1,13 +1,15 @@
 //! Laws of finders and filters, each on the contract of a function.
-ghost use Rattle.std.specs.Prelude.{◌≡◌, ◌<◌, true, OnOk};
-ghost use Rattle.finders.specs.Finders.{slot_of, takes, set_in, remove_in};
+ghost use Rattle.std.specs.Prelude.{◌≡◌, ◌<◌, ◌≤◌, true, length, OnOk};
+ghost use Rattle.finders.specs.Finders.{slot_of, held_count, takes, set_in, remove_in};
 ghost use Rattle.finders.specs.FinderLaws.{Alike, ReportedWhileMet, NeverReported, ReportAlike, EmptyLaws, SettingLaws, RemovingLaws, ReportingLaws};
 ghost use Rattle.finders.specs.Tables.{table_meaning};
 ghost use Rattle.finders.specs.Filters.{BarringLaws};
 
 use crate::finder::Finder;
 use crate::finder_fault::FinderFault;
-use crate::table::LeafTable;
+use crate::kind::Kind;
+use crate::order::Order;
+use crate::table::{LeafTable, Table};
 use geometry::{Aabb, ColliderHandle};
 
 /// What is opened empty holds nothing, and nothing is reported of it.
@@ -53,6 +55,17 @@ pub fn removed_from_reports<D: Finder>(finder: &mut D, collider: ColliderHandle)
 /// Of two finders that hold alike, whatever they are, each one's reports are the other's in some order.
 pub fn finders_that_hold_alike_report_alike<D: Finder, E: Finder>(first: &D, second: &E)
     ensures { Alike (D.meaning first.now).held (E.meaning second.now).held → ReportAlike (D.listed first.now) (E.listed second.now) }
+{}
+
+/// A table, of whichever kind and order, has at most 1,024 slots, and holds no more colliders.
+pub fn a_table_has_at_most_1024_slots<K: Kind, O: Order>(table: &Table<K, O>)
+    ensures slots { length (table_meaning table.now.table).held ≤ 1024 }
+    ensures colliders { held_count (table_meaning table.now.table).held ≤ 1024 }
+{}
+
+/// A leaf table has a capacity of at most 1,024.
+pub fn a_leaf_table_holds_at_most_1024(table: &LeafTable)
+    ensures { (table_meaning table.now.table).capacity ≤ 1024 }
 {}
 
 /// A leaf table refuses only what lies past its last slot: each slot below the capacity is taken.

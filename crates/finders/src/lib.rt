@@ -19,7 +19,7 @@ pub use filter::{Filter, KeepAll};
 pub use finder::Finder;
 pub use finder_fault::FinderFault;
 pub use kind::{AnySize, AtRest, Kind, Leaf};
-pub use offers::offer;
+pub use offers::{offer, offer_to};
 pub use order::{Order, Upward};
 pub use slot_table::{MOST_SLOTS, SlotTable};
 pub use table::{FixedList, LeafTable, Table};

@@ -9,7 +9,13 @@ use spaces::Space;
 
 /// Writes the collider of a slot, if its box meets and there is room.
 // `aabb` and `p` apart, as the question has them
-pub fn offer(slot: u32, entry: Option<Entry>, aabb: Aabb, p: f32, space: &mut Space<ColliderHandle>)
+pub fn offer_to(
+    slot: u32,
+    entry: Option<Entry>,
+    aabb: Aabb,
+    p: f32,
+    space: &mut Space<ColliderHandle>,
+)
     ensures same_space { SameSpace space.old space.new }
     ensures written { state space.new ≡ offered (state space.old) (hit slot entry aabb p) }
 {
@@ -19,4 +25,24 @@ pub fn offer(slot: u32, entry: Option<Entry>, aabb: Aabb, p: f32, space: &mut Sp
             generation: entry.generation,
         }));
     }
+}
+
+/// Writes the collider of a slot after the first `count`, if its box meets and there is room, and says how many are written then.
+// a count above the length is answered as it is: no space has so many places written
+pub fn offer(
+    slot: u32,
+    entry: Option<Entry>,
+    aabb: Aabb,
+    p: f32,
+    out: &mut [ColliderHandle],
+    count: usize,
+) -> usize
+    ensures { record { all = out.new; count = result } ≡ offered (record { all = out.old; count = count }) (hit slot entry aabb p) }
+{
+    if count > out.len() {
+        return count;
+    }
+    let mut space = Space::after(out, count);
+    offer_to(slot, entry, aabb, p, &mut space);
+    space.count()
 }

@@ -7,7 +7,7 @@ ghost use Rattle.finders.specs.FinderLaws.{Lists};
 ghost use Rattle.finders.specs.Tables.{table_meaning, upward, offered};
 ghost use Rattle.finders.specs.TableLaws.{upward_lists};
 
-use crate::offers::offer;
+use crate::offers::offer_to;
 use crate::slot_table::SlotTable;
 use geometry::{Aabb, ColliderHandle};
 use spaces::Space;
@@ -37,7 +37,7 @@ impl Order for Upward {
 
     fn offer_all(table: &SlotTable, aabb: Aabb, p: f32, space: &mut Space<ColliderHandle>) {
         for (slot, entry) in table.held().iter().enumerate() {
-            offer(slot as u32, *entry, aabb, p, space);
+            offer_to(slot as u32, *entry, aabb, p, space);
         }
     }
 }

@@ -1,5 +1,5 @@
 //! A table with a place for each of up to 1,024 slots.
-ghost use Rattle.std.specs.Prelude.{◌≡◌, ◌≤◌};
+ghost use Rattle.std.specs.Prelude.{◌≡◌, ◌≤◌, length};
 ghost use Rattle.finders.specs.Finders.{held_count};
 
 use crate::entry::Entry;
@@ -17,12 +17,13 @@ pub struct SlotTable {
     entries: ArrayVec<Option<Entry>, MOST_SLOTS>,
     limit: usize,
     count: usize,
+    ghost few: { length entries.items ≤ 1024 },
     ghost counted: { count ≡ held_count entries.items },
     ghost limited: { count ≤ limit },
 }
 
 impl SlotTable {
-    ghost use Rattle.std.specs.Prelude.{◌<◌, min, length, slice_set};
+    ghost use Rattle.std.specs.Prelude.{◌<◌, min, slice_set};
     ghost use Rattle.finders.specs.Finders.{empty, cleared, entry_at, put_at, set_in, remove_in};
     ghost use Rattle.finders.specs.Tables.{table_meaning, count_with};
 
@@ -90,11 +91,8 @@ impl SlotTable {
         ensures { (table_meaning self.new, result) ≡ set_in (table_meaning self.old) collider aabb }
     {
         let count = self.count_with(collider)?;
-        self.put(
-            collider.0.slot as usize,
-            Some(Entry::new(collider, aabb)),
-            count,
-        );
+        let entry = Entry::new(collider, aabb);
+        self.put(collider.0.slot as usize, Some(entry), count);
         Ok(())
     }
 

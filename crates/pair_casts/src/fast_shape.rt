@@ -2,11 +2,11 @@
 ghost use Rattle.std.specs.Prelude.{◌≡◌};
 ghost use Rattle.pair_casts.specs.FastShapes.{piece, pieces, compound_of, kind_of, motion_of, fast_shape};
 
-use arrayvec::ArrayVec;
 use casts::{child_sweep, is_piece};
-use geometry::{ShapeKind, Vector};
+use geometry::{Pose, ShapeKind, Vector};
 use hosts::children::MOST_CHILDREN;
 use hosts::{Child, Host, Motion, Sweep};
+use short_lists::{Blank, ShortList};
 
 /// A piece of a fast shape, with its own way.
 #[derive(Clone, Copy, Default)]
@@ -15,19 +15,40 @@ pub struct FastSubShape {
     pub sweep: Sweep,
 }
 
+impl Blank for FastSubShape {
+    ghost use Rattle.pair_casts.specs.Blanks.{no_piece};
+
+    ghost blank = { no_piece };
+
+    fn blank() -> FastSubShape {
+        let rest = Pose::at(Vector::zero());
+        FastSubShape {
+            shape: 0,
+            sweep: Sweep {
+                start: rest,
+                end: rest,
+                centre: Vector::zero(),
+            },
+        }
+    }
+}
+
+/// The pieces of a Compound.
+pub type SubShapes = ShortList<FastSubShape, MOST_CHILDREN>;
+
 /// How a fast shape is swept.
-#[derive(Drop)]
+#[derive(Clone, Copy)]
 pub enum FastShapeKind {
     /// One piece.
     Convex(FastSubShape),
     /// The pieces of a Compound, each by itself.
-    Compound(ArrayVec<FastSubShape, MOST_CHILDREN>),
+    Compound(SubShapes),
     /// As one that turns, by its velocities.
     Nonlinear,
 }
 
 /// A fast shape, described once for all its pairs.
-#[derive(Drop)]
+#[derive(Clone, Copy)]
 pub struct FastShape {
     pub shape: u32,
     pub kind: FastShapeKind,
@@ -45,21 +66,15 @@ fn piece<H: Host>(host: &H, sweep: Sweep, child: Child) -> FastSubShape
 }
 
 /// The first children that are pieces, in their order.
-fn pieces<H: Host>(
-    host: &H,
-    sweep: Sweep,
-    children: &[Child],
-) -> ArrayVec<FastSubShape, MOST_CHILDREN>
+fn pieces<H: Host>(host: &H, sweep: Sweep, children: &[Child]) -> SubShapes
     ensures { result.items ≡ pieces (H.answers host.now) sweep children.now }
 {
-    let mut pieces = ArrayVec::new();
-    let first = children
-        .iter()
-        .filter(|child| is_piece(host, child.shape))
-        .map(|child| piece(host, sweep, *child))
-        .take(MOST_CHILDREN);
-    // no more than 16 come, so each finds a place
-    let _ = pieces.extend(first);
+    let mut pieces = ShortList::new();
+    for child in children {
+        if !pieces.is_full() && is_piece(host, child.shape) {
+            pieces.push(piece(host, sweep, *child));
+        }
+    }
     pieces
 }
 
@@ -68,7 +83,11 @@ fn compound<H: Host>(host: &H, shape: u32, sweep: Sweep) -> Option<FastShapeKind
     ensures { result ≡ compound_of (pieces (H.answers host.now) sweep ((H.answers host.now).children shape)) }
 {
     let pieces = pieces(host, sweep, host.children(shape));
-    (!pieces.is_empty()).then_some(FastShapeKind::Compound(pieces))
+    if pieces.is_empty() {
+        None
+    } else {
+        Some(FastShapeKind::Compound(pieces))
+    }
 }
 
 /// How a shape is swept along a sweep; none of what is never swept.

@@ -7,5 +7,5 @@ mod fast_shape;
 mod target;
 
 pub use cast::{PairCast, cast_collider_pair};
-pub use fast_shape::{FastShape, FastShapeKind, FastSubShape};
+pub use fast_shape::{FastShape, FastShapeKind, FastSubShape, SubShapes};
 pub use target::{Step, Target};

@@ -100,6 +100,9 @@ module _ (cs : List (Slot Collider)) (h : RigidBodyHandle) (b : RigidBody) where
       (and_from (counted l) (d && o) (counted_list r)
       (and_from d o ((distinct_decides (listed l)).1 r.once) ((owns_all_decides cs h (listed l)).1 r.owned))))
 
+  pub body_decides : Decides (body_holds cs h b) (BodyHolds cs h b)
+  body_decides = (body_out, body_in)
+
 -- ---- colliders
 
 module _ (a : Answers) (bs : List (Slot RigidBody)) (k : ColliderHandle) (c : Collider) where
@@ -147,6 +150,9 @@ module _ (a : Answers) (bs : List (Slot RigidBody)) (k : ColliderHandle) (c : Co
   collider_in : ColliderHolds a bs k c → collider_holds a bs k c ≡ true
   collider_in r =
       and_from (is_some (a.kind c.shape)) (parent_holds a bs k c.position c.parent) r.known (parent_in c.parent r.attached)
+
+  pub collider_decides : Decides (collider_holds a bs k c) (ColliderHolds a bs k c)
+  collider_decides = (collider_out, collider_in)
 
 -- ---- both stores
 

@@ -10,9 +10,8 @@ use Rattle.texts.specs.declared.trouble.Trouble.TheVariants.{UnknownCommand, Not
 use Rattle.texts.specs.Cuts.{is_blank}
 use Rattle.script.specs.declared.command.HostChoice.TheVariants.{Recorded}
 use Rattle.script.specs.declared.command.Command.TheVariants as commands
-use Rattle.arrayvec.specs.ArrayVec.{ArrayVec, array_vec_len}
-use Rattle.hosts.specs.declared.questions.Child.{Child}
-use Rattle.script.specs.Parts.{child_of, blank, children_of}
+use Rattle.script.specs.declared.command.Children.{Children}
+use Rattle.script.specs.Parts.{child_of, blank, no_children, children_of}
 use Rattle.script.specs.Lines.{command_of}
 
 -- What stands after a comment sign does not matter, nor do blanks before a line or after it.
@@ -22,14 +21,14 @@ pub record Ignored : Type 0 where
   pub blanks_after : (line bs : List ℕ) → AllByRecursion (λ b. is_blank b ≡ true) bs → command_of (line ++ bs) ≡ command_of line
 
 -- The children of a Compound are its words, in their order, 16 at most; what stands past them is blank.
-pub record Kept (ws : List (List ℕ)) (cs : ArrayVec Child) : Type 0 where
+pub record Kept (ws : List (List ℕ)) (cs : Children) : Type 0 where
   pub few : length ws ≤ 16
-  pub count : array_vec_len cs ≡ length ws
-  pub each : (i : ℕ) → i < length ws → child_of (slice_index_or ws i []) ≡ Ok (slice_index_or cs.items i blank)
-  pub past : (i : ℕ) → length ws ≤ i → slice_index_or cs.items i blank ≡ blank
+  pub count : cs.count ≡ length ws
+  pub each : (i : ℕ) → i < length ws → child_of (slice_index_or ws i []) ≡ Ok (slice_index_or cs.list i blank)
+  pub past : (i : ℕ) → length ws ≤ i → slice_index_or cs.list i blank ≡ blank
 
 abbrev pub Gathered : Type 0
-Gathered = (ws : List (List ℕ)) (cs : ArrayVec Child) → children_of [] ws ≡ Ok cs → Kept ws cs
+Gathered = (ws : List (List ℕ)) (cs : Children) → children_of no_children ws ≡ Ok cs → Kept ws cs
 
 abbrev one : Float
 one = from_bits binary32 0x3f80_0000

@@ -11,7 +11,7 @@ use Rattle.texts.specs.Places.{and_then, place_of, pose_of}
 use Rattle.script.specs.declared.command.Command.{Command}
 use Rattle.script.specs.declared.command.Command.TheVariants as commands
 use Rattle.script.specs.Choices.{host_of, kind_of, status_of, time_of, overlap_of, pair_of}
-use Rattle.script.specs.Parts.{children_of}
+use Rattle.script.specs.Parts.{no_children, children_of}
 use Rattle.script.specs.declared.verbs.Verb.{Verb}
 use Rattle.script.specs.declared.verbs.Verb.TheVariants as verbs
 use Rattle.script.specs.Verbs.{verb_from}
@@ -54,7 +54,7 @@ box_from ws = and_then (read_word place_of ws) (λ (v, us). and_then (ended us) 
 -- compound N@POSE ...
 abbrev pub compound_from : List (List ℕ) → Result Command Trouble
 compound_from [] = Err MissingWord
-compound_from (w ∷ ws) = and_then (children_of [] (w ∷ ws)) (λ cs. Ok (commands.Compound cs))
+compound_from (w ∷ ws) = and_then (children_of no_children (w ∷ ws)) (λ cs. Ok (commands.Compound cs))
 
 -- listed KIND LEAST GREATEST [N@POSE ...]
 abbrev pub listed_from : List (List ℕ) → Result Command Trouble
@@ -62,7 +62,7 @@ listed_from ws =
     and_then (read_word kind_of ws) (λ (k, us).
     and_then (read_word place_of us) (λ (least, vs).
     and_then (read_word place_of vs) (λ (greatest, rest).
-    and_then (children_of [] rest) (λ cs. Ok (commands.Listed k (box least greatest) cs)))))
+    and_then (children_of no_children rest) (λ cs. Ok (commands.Listed k (box least greatest) cs)))))
 
 -- row FAST TARGET hit|failed|overlapped|separated FRACTION TIME|- yes|no|-
 abbrev pub row_from : List (List ℕ) → Result Command Trouble

@@ -1,6 +1,5 @@
 -- The children of a Compound. Assumes nothing.
-use Rattle.std.specs.Prelude.{ℕ, cond, List, [], ◌∷◌, ◌++◌, length, Ok, Err, Result, nat_lt, ◌==◌}
-use Rattle.arrayvec.specs.ArrayVec.{ArrayVec}
+use Rattle.std.specs.Prelude.{ℕ, ◌+◌, cond, List, [], ◌∷◌, replicate, Ok, Err, Result, nat_lt, ◌==◌, slice_set}
 use Rattle.geometry.specs.Vectors.{origin}
 use Rattle.geometry.specs.Poses.{placed}
 use Rattle.hosts.specs.declared.questions.Child.{Child}
@@ -9,6 +8,7 @@ use Rattle.texts.specs.declared.trouble.Trouble.TheVariants.{NotAChild, TooManyC
 use Rattle.texts.specs.Cuts.{front_of, past_of}
 use Rattle.texts.specs.Digits.{shape_of}
 use Rattle.texts.specs.Places.{and_then, pose_of}
+use Rattle.script.specs.declared.command.Children.{Children}
 
 -- a shape number, and after the mark a pose: the tail stands from the mark on
 abbrev pub child_from : List ℕ → List ℕ → Result Child Trouble
@@ -18,14 +18,20 @@ child_from n (at ∷ place) = and_then (shape_of n) (λ s. and_then (pose_of pla
 abbrev pub child_of : List ℕ → Result Child Trouble
 child_of w = child_from (front_of (λ b. b == 64) w) (past_of (λ b. b == 64) w)
 
--- what stands past the last
+-- what stands past the count
 abbrev pub blank : Child
 blank = record { pose = placed origin; shape = 0 }
 
--- one more child; the word after the sixteenth is not read
-abbrev pub with_child : List Child → List ℕ → Result (List Child) Trouble
-with_child cs w = cond (nat_lt (length cs) 16) (and_then (child_of w) (λ c. Ok (cs ++ c ∷ []))) (Err TooManyChildren)
+abbrev pub no_children : Children
+no_children = record { list = replicate 16 blank; count = 0 }
 
-abbrev pub children_of : List Child → List (List ℕ) → Result (ArrayVec Child) Trouble
-children_of cs [] = Ok (record { items = cs })
+-- one more child; the word after the sixteenth is not read
+abbrev pub with_child : Children → List ℕ → Result Children Trouble
+with_child cs w =
+    cond (nat_lt cs.count 16)
+    (and_then (child_of w) (λ c. Ok (record { list = slice_set cs.list cs.count c; count = cs.count + 1 })))
+    (Err TooManyChildren)
+
+abbrev pub children_of : Children → List (List ℕ) → Result Children Trouble
+children_of cs [] = Ok cs
 children_of cs (w ∷ ws) = and_then (with_child cs w) (λ ds. children_of ds ws)

@@ -1,11 +1,12 @@
 //! The children of a Compound: a shape number, `@` and a pose each.
-ghost use Rattle.std.specs.Prelude.{◌≡◌, []};
+ghost use Rattle.std.specs.Prelude.{◌≡◌};
 ghost use Rattle.texts.specs.WordsLeft.{words_left};
-ghost use Rattle.script.specs.Parts.{child_of, children_of};
+ghost use Rattle.script.specs.Parts.{child_of, no_children, children_of};
 
 use crate::command::Children;
-use arrayvec::ArrayVec;
+use geometry::{Pose, Vector};
 use hosts::Child;
+use hosts::children::MOST_CHILDREN;
 use texts::{Trouble, Until, Words, front, past, pose, shape};
 
 /// What stands between a child's shape and its pose.
@@ -22,17 +23,30 @@ fn child(word: &[u8]) -> Result<Child, Trouble>
     Ok(Child { pose, shape })
 }
 
+fn none() -> Children
+    ensures { result ≡ no_children }
+{
+    let blank = Child {
+        pose: Pose::at(Vector::zero()),
+        shape: 0,
+    };
+    Children {
+        list: [blank; MOST_CHILDREN],
+        count: 0,
+    }
+}
+
 /// The children that the words are, 16 at most.
 pub fn read_children(words: Words<'_>) -> Result<Children, Trouble>
-    ensures { result ≡ children_of [] (words_left words.entry) }
+    ensures { result ≡ children_of no_children (words_left words.entry) }
 {
-    let mut children = ArrayVec::new();
+    let mut children = none();
     for word in words {
-        if children.is_full() {
+        if children.count >= MOST_CHILDREN as u32 {
             return Err(Trouble::TooManyChildren);
         }
-        let child = child(word)?;
-        children.push(child);
+        children.list[children.count as usize] = child(word)?;
+        children.count += 1;
     }
     Ok(children)
 }

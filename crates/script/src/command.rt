@@ -1,13 +1,17 @@
 //! What a line says.
-use arrayvec::ArrayVec;
 use casts::Flight;
 use geometry::{Aabb, ShapeKind, Vector};
 use hosts::Child;
 use hosts::children::MOST_CHILDREN;
 use recorded::Row;
 
-/// The children of a Compound.
-pub type Children = ArrayVec<Child, MOST_CHILDREN>;
+/// The children of a Compound: the first `count` of the list. The others are blank.
+// no `ArrayVec`: that is not copied
+#[derive(Clone, Copy)]
+pub struct Children {
+    pub list: [Child; MOST_CHILDREN],
+    pub count: u32,
+}
 
 /// Which host a hall has.
 #[derive(Clone, Copy, PartialEq, Eq, Debug)]
@@ -17,7 +21,7 @@ pub enum HostChoice {
 }
 
 /// A line that was read.
-#[derive(Drop)]
+#[derive(Clone, Copy)]
 pub enum Command {
     /// No word.
     Blank,

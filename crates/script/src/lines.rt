@@ -84,7 +84,7 @@ fn compound_line(words: Words<'_>) -> Result<Command, Trouble>
     ensures { result ≡ compound_from (words_left words.entry) }
 {
     let children = read_children(words)?;
-    if children.is_empty() {
+    if children.count == 0 {
         return Err(Trouble::MissingWord);
     }
     Ok(Command::Compound(children))

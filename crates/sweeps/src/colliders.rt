@@ -91,7 +91,7 @@ impl<'a, H: Host, D: Finder, F: Filter> BodySweep<'a, H, D, F> {
     {
         let body = fast.body;
         let sweep = collider_sweep(self.hall.host, body, relative);
-        let Some(shape) = FastShape::new(
+        let Some(shape) = &FastShape::new(
             self.hall.host,
             fast.collider.shape,
             sweep,
@@ -104,7 +104,7 @@ impl<'a, H: Host, D: Finder, F: Filter> BodySweep<'a, H, D, F> {
             hall: self.hall,
             mode: self.mode,
             fast,
-            shape: &shape,
+            shape,
         };
         fast_sweep.sweep_along(sweep, candidates, reached, hits)
     }

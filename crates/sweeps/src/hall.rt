@@ -38,3 +38,10 @@ pub struct BodyContinuousResult {
     pub handle: RigidBodyHandle,
     pub fraction: f32,
 }
+
+/// How far a swept body comes, as far as is known, and how many hits are written.
+#[derive(Clone, Copy)]
+pub struct Reached {
+    pub fraction: f32,
+    pub hits: usize,
+}

@@ -4,8 +4,10 @@
 
 mod candidates;
 mod colliders;
+mod counted;
 mod hall;
 
 pub use candidates::FastSweep;
 pub use colliders::BodySweep;
-pub use hall::{BodyContinuousResult, Hall, PseudoHit, PseudoHitMode};
+pub use counted::{handle_candidate, sweep_fast_body};
+pub use hall::{BodyContinuousResult, Hall, PseudoHit, PseudoHitMode, Reached};

@@ -63,3 +63,11 @@ pub fn past(text: &[u8], until: Until) -> &[u8]
 {
     &text[reach(text, until)..]
 }
+
+/// A text in two: what stands before the cut, and the text from the cut on.
+pub(crate) fn cut(text: &[u8], until: Until) -> (&[u8], &[u8])
+    ensures front { result.0.now ≡ front_of (stops_at until) text.now }
+    ensures past { result.1.now ≡ past_of (stops_at until) text.now }
+{
+    text.split_at(reach(text, until))
+}

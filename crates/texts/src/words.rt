@@ -4,7 +4,7 @@ ghost use Rattle.std.specs.Iterator.{YieldsFirstRef, item_count};
 ghost use Rattle.texts.specs.Words.{words_of};
 ghost use Rattle.texts.specs.WordsLeft.{words_left};
 
-use crate::cuts::{Until, front, past};
+use crate::cuts::{Until, cut, past};
 
 /// The words of a text that are still to come.
 // a struct, since no function can hand out a chain
@@ -34,8 +34,9 @@ impl<'a> Iterator for Words<'a> {
         if text.is_empty() {
             return None;
         }
-        self.text = past(text, Until::Blank);
-        Some(front(text, Until::Blank))
+        let (word, rest) = cut(text, Until::Blank);
+        self.text = rest;
+        Some(word)
     }
 }
 

@@ -1,21 +1,33 @@
-use Rattle.std.proofs.Common.{rules, tests}
-use Rattle.std.proofs.lemmas.Iterator.{YieldsList-from_slice, YieldsList-from_map, YieldsList-from_take}
-use Rattle.std.proofs.lemmas.Iterator.Consumers.{YieldsList-at, YieldsList-from_filter}
+use Rattle.std.proofs.Common.{rules, tests, arith, sym, ◌∙◌, ◌≡◌, ◌≢◌, length, length-append}
+use Rattle.hosts.specs.declared.questions.Child.{Child}
 use Rattle.casts.specs.Pieces.{is_proxy}
 use Rattle.pair_casts.specs.FastShapes.{piece}
-use Rattle.pair_casts.proofs.Extends.{extended}
+use Rattle.pair_casts.proofs.Pieces.{next_full, next_other, next_piece}
 use Rattle.pair_casts.proofs.fast_shape.pieces.Goals as goal
+use Rattle.pair_casts.proofs.fast_shape.pieces.Goals.{then-not-is_full+then-is_piece, else-not-is_full, else-not-is_full-via-then-not-is_full+else-is_piece, else-not-is_full-via-else-not-is_full}
 
-pub returns : goal.returns
-returns g c =
+pub loop-child-preserved : goal.loop-child-preserved
+loop-child-preserved g c =
     let h = g.H.Host.answers c.args.host.now in
-    extended 16 _ c.new-pieces.result.items c.extend.new.self.items c.extend.result
-    c.new-pieces.ensures c.extend.ensures.ran c.extend.ensures.full c.extend.ensures.one_more
-    (YieldsList-from_take 16
-    (YieldsList-at c.take-first.ensures.source
-    (YieldsList-from_map _ (piece h c.args.sweep)
-    (YieldsList-at c.map.ensures.source
-    (YieldsList-from_filter _ (λ x. is_proxy (h.kind x.shape))
-    (YieldsList-from_slice c.args.children.now (cc)) c.filter.ensures.closure (λ x b q k. search (rules, tests))))
-    c.map.ensures.closure (λ x r q k. search (rules, tests))))
-    c.take-first.ensures.count)
+    let f = piece h c.args.sweep in
+    let p = λ (k : Child). is_proxy (h.kind k.shape) in
+    let cs = c.args.children.now in
+    let i = c.loop-child.child-index in
+    let ys = c.loop-child.pieces.items in
+    let so = c.loop-child.invariant.so_far in
+    elim c.if-not-is_full.branch [
+      | then-not-is_full+then-is_piece w ↦
+          let room : length ys ≢ 16 = search (rules, tests) in
+          let more = next_piece 16 f p cs i _ ys c.loop-child-test.true so (sym w.is_piece.ensures ∙ w.if-is_piece.true) room in
+          record { few = grind (arith, length-append); so_far = cc }
+      | else-not-is_full w ↦ record {
+        few = grind arith;
+        so_far = elim w.else-not-is_full.branch [
+          | else-not-is_full-via-then-not-is_full+else-is_piece v ↦
+              let same = next_other 16 f p cs i _ ys c.loop-child-test.true so (sym v.is_piece.ensures ∙ v.if-is_piece.false) in cc
+          | else-not-is_full-via-else-not-is_full v ↦
+              let full : length ys ≡ 16 = search (rules, tests) in
+              let same = next_full 16 f p cs i ys so full in cc
+        ];
+      }
+    ]

@@ -14,13 +14,13 @@ returns-then-is_empty-clause-steps c =
 pub returns-clause-steps : goal.returns-clause-steps
 returns-clause-steps c =
     let e : c.past-text.result.now ≡ past_blanks c.args.self.now.text.now = c.past-text.ensures in
-    let f : c.front.result.now ≡ front_of is_blank c.past-text.result.now = c.front.ensures in
-    let g : c.past-self.result.now ≡ past_of is_blank c.past-text.result.now = c.past-self.ensures in
+    let f : c.cut.result.0.now ≡ front_of is_blank c.past-text.result.now = c.cut.ensures.front in
+    let g : c.cut.result.1.now ≡ past_of is_blank c.past-text.result.now = c.cut.ensures.past in
     let s = some_words c.args.self.now.text.now (λ z. eqb-false _ 0 (sym c.if-is_empty.ensures) (ap length e ∙ z)) in
     cc
 
 pub returns-clause-goes : goal.returns-clause-goes
 returns-clause-goes c =
-    let s : words_of c.args.self.now.text.now ≡ c.front.result.now ∷ words_of c.past-self.result.now = returns-clause-steps c in
+    let s : words_of c.args.self.now.text.now ≡ c.cut.result.0.now ∷ words_of c.cut.result.1.now = returns-clause-steps c in
     let n = ap length s in
     record { on = λ f. search (rules, arith); keeps = search rules; rests = search rules }

@@ -1,0 +1,2 @@
+pub mod ShortLists
+pub mod Places
