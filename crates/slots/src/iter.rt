@@ -49,16 +49,11 @@ impl<'a, T> Iterator for LiveRecords<'a, T> {
     ghost remaining = { item_count (λ rest. rest) };
 
     fn next(&mut self) -> Option<(Handle, &'a T)> {
-        // what is left stands in locals: a walk over many empty slots keeps it in registers
-        let mut left = self.slots;
-        let mut number = self.number;
-        while let Some((first, others)) = left.split_first() {
-            let slot = number;
-            left = others;
-            number += 1;
+        while let Some((first, others)) = self.slots.split_first() {
+            let slot = self.number;
+            self.slots = others;
+            self.number += 1;
             if let Slot::Live { generation, value } = first {
-                self.slots = left;
-                self.number = number;
                 let handle = Handle {
                     slot,
                     generation: *generation,
@@ -66,8 +61,6 @@ impl<'a, T> Iterator for LiveRecords<'a, T> {
                 return Some((handle, value));
             }
         }
-        self.slots = left;
-        self.number = number;
         None
     }
 }

@@ -5,8 +5,8 @@ use Rattle.slots.proofs.iter.LiveRecordsIterator.next.Given as goal
 -- no record was passed over
 abbrev pub invariant-loop-first : goal.invariant-loop-first
 invariant-loop-first g l =
-    (l.number + length l.left < 2 ^ 32)
-    × (records_from l.number l.left ≡ l.fn.self)
+    (l.self-inside.number + length l.self-inside.slots.now < 2 ^ 32)
+    × (records_from l.self-inside.number l.self-inside.slots.now ≡ l.fn.self)
 
 abbrev pub decreases-loop-first : goal.decreases-loop-first
-decreases-loop-first g l = length l.left
+decreases-loop-first g l = length l.self-inside.slots.now
