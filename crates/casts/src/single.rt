@@ -45,7 +45,7 @@ impl<H: Host> Check<'_, H> {
             result.items ≡ casts_of_pieces h self.now.flight self.now.target (child_pieces h (sweep_of self.now.flight) (h.children self.now.flight.fast)) }
     {
         let mut casts = ShortList::new();
-        // a `for`: `extend` of a chain answers an error, which cannot come here
+        // a `for`: a list that is copied is filled by `push`
         for child in self.host.children(self.flight.fast) {
             if is_piece(self.host, child.shape) {
                 casts.push(self.cast_child(*child));
