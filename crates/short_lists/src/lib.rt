@@ -1,7 +1,7 @@
 //! Short lists that lie in the value itself, and are copied with it.
 #![tactic(auto)]
 
-ghost use Rattle.std.specs.Prelude.{◌≡◌, ◌<◌, ◌==◌, [], ◌∷◌, ◌++◌, length};
+ghost use Rattle.std.specs.Prelude.{◌≡◌, ◌<◌, ◌≤◌, ◌==◌, [], ◌∷◌, ◌++◌, length};
 
 use std::alloc::AllocError;
 use std::marker::Model;
@@ -98,12 +98,14 @@ impl<T: Blank, const N: usize> ShortList<T, N> {
         &self.places[..self.count]
     }
 
-    /// One value more at the end, for which there is room.
+    /// One value more at the end, where there is room; a full list stays as it is.
     pub fn push(&mut self, value: T)
-        requires { length self.old.items < N }
-        ensures { self.new.items ≡ self.old.items ++ value ∷ [] }
+        ensures room { length self.old.items < N → self.new.items ≡ self.old.items ++ value ∷ [] }
+        ensures full { N ≤ length self.old.items → self.new.items ≡ self.old.items }
     {
-        self.places[self.count] = value;
-        self.count += 1;
+        if self.count < N {
+            self.places[self.count] = value;
+            self.count += 1;
+        }
     }
 }

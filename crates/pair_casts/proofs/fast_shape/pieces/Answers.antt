@@ -19,6 +19,7 @@ loop-child-preserved g c =
       | then-not-is_full+then-is_piece w ↦
           let room : length ys ≢ 16 = search (rules, tests) in
           let more = next_piece 16 f p cs i _ ys c.loop-child-test.true so (sym w.is_piece.ensures ∙ w.if-is_piece.true) room in
+          let grown = w.push.ensures.room (grind arith) in
           record { few = grind (arith, length-append); so_far = cc }
       | else-not-is_full w ↦ record {
         few = grind arith;
